@@ -9,7 +9,7 @@ use lib.Dec.{eqb, leb}
 use lib.ListN.{length, drop, length-append, length-drop}
 use Rattle.std.specs.declared.option.Option.{Option}
 use Rattle.std.specs.declared.option.Option.the-variants.{None, Some}
-use Rattle.std.proofs.shelf.Lists.{drop-all}
+use Rattle.std.proofs.shelf.Lists.{drop-all, drop-drop}
 use Rattle.std.proofs.shelf.Tests.{cond-true, cond-false, cond-both, cases-lt, le-leb, lt-leb}
 use Rattle.refusals.specs.declared.Refusal.the-variants.{JournalTooLong, LineNotDue}
 use Rattle.journal.specs.Keys.{front-of, due-key, may-end}
@@ -81,3 +81,10 @@ ends-from text at =
     (λ inside. lt-leb (length text) at inside ∙ sym (some-no-end (drop at text) (omega (arith, length-drop at text))))
     (λ past. le-leb (length text) at past ∙ sym (ap (λ bytes. is-end (rows-of bytes)) (drop-all at text past)))
     (cases-lt at (length text))
+
+-- The rows behind a line that was handed out are those of the next place.
+pub passed-rows : {text : List ℕ} {key : Key} {before after : Place} {value : Part} → Passed text key before after value → rows-of (drop (before .at) text) ≡ row (front-of key ++ value .text .now) (rows-of (drop (after .at) text))
+passed-rows {text} {key} {before} {after} {value} passed =
+    let rest : drop (line-length key (value .text .now)) (drop (before .at) text) ≡ drop (after .at) text =
+    drop-drop (line-length key (value .text .now)) (before .at) text ∙ ap (λ n. drop n text) (sym (passed .next)) in
+    passed .stands .rows ∙ ap (λ bytes. row (front-of key ++ value .text .now) (rows-of bytes)) rest

@@ -1,7 +1,8 @@
 -- What a line that was handed out says, and which bytes of the journal it holds.
 use mathlib.Core.List.{List}
-use Prim.Native.Nat.{ℕ, _+_}
+use Prim.Native.Nat.{ℕ, _+_, _≤_}
 use mathlib.Core.Path.{_≡_}
+use lib.IntN.{natAbs}
 use lib.ListN.{drop}
 use Rattle.journal.specs.Values.{Entry, commands, kills, cards, register, move, step}
 use Rattle.journal.specs.declared.lines.Part.{Part}
@@ -29,10 +30,11 @@ value-of (Step value number action command) = value
 abbrev pub Behind : Part → Part → Type 0
 Behind value number = (number .text .now ≡ drop 1 (value .text .now)) × (number .at ≡ value .at + 1)
 
-abbrev pub Numbered : Line → Type 0
-Numbered (Commands value count) = Unit {0}
-Numbered (Kills value count) = Unit {0}
-Numbered (Cards value count) = Unit {0}
-Numbered (Register value kind) = Unit {0}
-Numbered (Move value hundredths) = Unit {0}
-Numbered (Step value number action command) = Behind value number
+-- What a caller may rely on besides: a move keeps its limits, and a step's number stands behind its letter.
+abbrev pub Sound : Line → Type 0
+Sound (Commands value count) = Unit {0}
+Sound (Kills value count) = Unit {0}
+Sound (Cards value count) = Unit {0}
+Sound (Register value kind) = Unit {0}
+Sound (Move value hundredths) = natAbs hundredths ≤ 9000
+Sound (Step value number action command) = Behind value number

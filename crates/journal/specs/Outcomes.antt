@@ -14,7 +14,7 @@ use Rattle.refusals.specs.declared.Refusal.the-variants.{JournalTooLong, LineNo
 use Rattle.journal.specs.Rows.{Rows, end, cut, row, rows-of, after-front}
 use Rattle.journal.specs.Keys.{front-of, due-key, may-end}
 use Rattle.journal.specs.Values.{Entry, commands, kills, cards, register, move, step, entry-written}
-use Rattle.journal.specs.Lines.{entry-of, value-of, Numbered}
+use Rattle.journal.specs.Lines.{entry-of, value-of, Sound}
 use Rattle.journal.specs.declared.keys.Key.{Key}
 use Rattle.journal.specs.declared.lines.Line.{Line}
 use Rattle.journal.specs.declared.lines.Part.{Part}
@@ -98,5 +98,5 @@ pub record Passed (text : List ℕ) (key : Key) (before after : Place) (value : 
 abbrev pub Moves : Result (Option Line) Refusal → List ℕ → (before after : Place) → (known known′ : ℕ) → Type 0
 Moves (Ok None) text before after known known′ = (after ≡ before) × (known′ ≡ known)
 Moves (Ok (Some line)) text before after known known′ =
-    Passed text (due-key (before .line) known) before after (value-of line) × Numbered line × (known′ ≡ commands-after known (entry-of line))
+    Passed text (due-key (before .line) known) before after (value-of line) × Sound line × (known′ ≡ commands-after known (entry-of line))
 Moves (Err refusal) text before after known known′ = (after ≡ before) × (known′ ≡ known)

@@ -7,7 +7,7 @@ ghost use Rattle.std.specs.Options.{Cases as BySome};
 ghost use Rattle.std.specs.Results.{Cases};
 ghost use Rattle.std.specs.declared.option.Option.the-variants.{None};
 ghost use Rattle.journal.specs.Keys.{front-of};
-ghost use Rattle.journal.specs.Lines.{value-of, Numbered};
+ghost use Rattle.journal.specs.Lines.{value-of, Sound};
 ghost use Rattle.journal.specs.Outcomes.{Passed, line-outcome, result-outcome, value-at};
 ghost use Rattle.journal.specs.Rows.{rows-of};
 use super::keys::Key;
@@ -51,7 +51,7 @@ pub(crate) fn take_line<'a>(
     requires short { ⌜ length (now text) ≤ 65536 ⌝ }
     requires counted { ⌜ now place .line ≤ now place .at + 1 ⌝ }
     ensures says { λ r. ⌜ result-outcome r ≡ line-outcome accepts key (now (place .entry) .line) (rows-of (drop (now (place .entry) .at) (now (text .entry)))) ⌝ }
-    ensures moves { λ r. ⌜ Cases r (λ line. Passed (now (text .entry)) key (now (place .entry)) (now (place .exit)) (value-of line) × Numbered line) (λ _. now (place .exit) ≡ now (place .entry)) ⌝ }
+    ensures moves { λ r. ⌜ Cases r (λ line. Passed (now (text .entry)) key (now (place .entry)) (now (place .exit)) (value-of line) × Sound line) (λ _. now (place .exit) ≡ now (place .entry)) ⌝ }
 {
     let saved = *place;
     let guard = Restore { place, saved };

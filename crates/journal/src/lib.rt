@@ -2,7 +2,7 @@
 mod due;
 pub mod keys;
 pub mod lines;
-mod numbers;
+pub mod numbers;
 pub mod place;
 pub mod reader;
 pub mod registers;

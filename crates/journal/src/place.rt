@@ -2,7 +2,7 @@
 ghost use mathlib.Core.Path.{_≡_};
 
 // The next line's first byte, and its number from 1.
-#[derive(Clone, Copy, Debug, PartialEq)]
+#[derive(Clone, Copy)]
 pub struct Place {
     pub at: usize,
     pub line: u32,

@@ -47,7 +47,7 @@ impl<'a> Reader<'a> {
     pub fn place(&self) -> Place
         ensures { λ r. ⌜ r ≡ now (self .entry) .place ⌝ }
     {
-        self.place
+        Place { ..self.place }
     }
 
     // The next line; none where the journal ends as it may. On a refusal the reader stays where it is.

@@ -5,7 +5,7 @@ ghost use Rattle.journal.specs.Values.{kind-named, is-accepted, if-accepted};
 
 // Which registers a reader accepts: each that journals name, or the caller's own kind alone.
 // A caller whose kind has no name, kind 0, accepts no journal.
-#[derive(Clone, Copy, Debug)]
+#[derive(Clone, Copy)]
 pub enum Accepted {
     AnyNamed,
     Only(u8),

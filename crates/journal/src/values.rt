@@ -1,10 +1,10 @@
 // From the value of a line to what it says.
 ghost use mathlib.Core.Path.{_≡_};
 ghost use Prim.Native.Nat.{_^_, _<_, _≤_};
-ghost use lib.IntN.{pos, negℤ};
+ghost use lib.IntN.{pos, natAbs, negℤ};
 ghost use Rattle.std.specs.Options.{mapped};
 ghost use Rattle.std.specs.Slices.{found};
-ghost use Rattle.journal.specs.Lines.{entry-of, value-of, Numbered};
+ghost use Rattle.journal.specs.Lines.{entry-of, value-of, Sound};
 ghost use Rattle.journal.specs.Values.{entry-written, if-accepted, kind-named, move-written, step-written, command-written};
 use super::keys::Key;
 use super::lines::Line;
@@ -26,7 +26,8 @@ fn read_kind(text: &[u8], accepts: Accepted) -> Option<u8>
 
 // A move, in hundredths of a degree.
 fn read_move(text: &[u8]) -> Option<i32>
-    ensures { λ r. ⌜ r ≡ move-written (now (text .entry)) ⌝ }
+    ensures says { λ r. ⌜ r ≡ move-written (now (text .entry)) ⌝ }
+    ensures limited { λ r. ⌜ found r (λ z. natAbs z ≤ 9000) ⌝ }
 {
     match text {
         [b'-', size @ ..] => negated(number_between(size, 1, 9000)),
@@ -39,7 +40,8 @@ fn read_move(text: &[u8]) -> Option<i32>
 
 fn negated(size: Option<u32>) -> Option<i32>
     requires { ⌜ found size (λ n. n ≤ 9000) ⌝ }
-    ensures { λ r. ⌜ r ≡ mapped (λ n. negℤ (pos n)) size ⌝ }
+    ensures says { λ r. ⌜ r ≡ mapped (λ n. negℤ (pos n)) size ⌝ }
+    ensures limited { λ r. ⌜ found r (λ z. natAbs z ≤ 9000) ⌝ }
 {
     match size {
         Some(n) => Some(-(n as i32)),
@@ -63,7 +65,7 @@ fn read_command(action: Action, text: &[u8]) -> Option<u32>
 fn read_step<'a>(value: Part<'a>) -> Option<Line<'a>>
     requires { ⌜ value .at < 2 ^ 32 ⌝ }
     ensures says { λ r. ⌜ mapped entry-of r ≡ step-written (value .entry .text .now) ⌝ }
-    ensures parts { λ r. ⌜ found r (λ l. (value-of l ≡ value .entry) × Numbered l) ⌝ }
+    ensures parts { λ r. ⌜ found r (λ l. (value-of l ≡ value .entry) × Sound l) ⌝ }
 {
     let [letter, rest @ ..] = value.text else {
         return None;
@@ -86,7 +88,7 @@ fn read_step<'a>(value: Part<'a>) -> Option<Line<'a>>
 pub(crate) fn read_value<'a>(accepts: Accepted, key: Key, value: Part<'a>) -> Option<Line<'a>>
     requires { ⌜ value .at < 2 ^ 32 ⌝ }
     ensures says { λ r. ⌜ mapped entry-of r ≡ entry-written accepts key (value .entry .text .now) ⌝ }
-    ensures parts { λ r. ⌜ found r (λ l. (value-of l ≡ value .entry) × Numbered l) ⌝ }
+    ensures parts { λ r. ⌜ found r (λ l. (value-of l ≡ value .entry) × Sound l) ⌝ }
 {
     match key {
         Key::Commands => match number_between(value.text, 1, 64) {

@@ -4,7 +4,7 @@ ghost use mathlib.Core.Path.{_≡_};
 ghost use Rattle.refusals.specs.Refusals.{number-of, line-of};
 
 // The cases stand in the order in which calls test for them.
-#[derive(Clone, Copy, Debug, PartialEq)]
+#[derive(Clone, Copy)]
 pub enum Refusal {
     // making a hub
     CountOutsideLimits,

@@ -15,4 +15,7 @@ returns-in-45 c =
     let some : 0 < length text = search needs in
     let minus : getD text 0 0 ≡ 45 = search needs in
     let number : c .number-between .result ≡ number-between 1 9000 (drop 1 text) = simp take-rest at (c .number-between .ensures) in
-    c .negated .ensures ∙ ap (mapped (λ n. negℤ (pos n))) number ∙ below-zero text some minus
+    record {
+      says = c .negated .ensures .says ∙ ap (mapped (λ n. negℤ (pos n))) number ∙ below-zero text some minus;
+      limited = c .negated .ensures .limited;
+    }

@@ -8,7 +8,7 @@ use Rattle.std.specs.declared.option.Option.{Option}
 use Rattle.std.specs.declared.option.Option.the-variants.{None, Some}
 use Rattle.std.proofs.shelf.Lists.{take-rest}
 use Rattle.journal.specs.Values.{step}
-use Rattle.journal.specs.Lines.{entry-of, value-of, Numbered}
+use Rattle.journal.specs.Lines.{entry-of, value-of, Sound}
 use Rattle.journal.proofs.Steps.{step-at}
 use Rattle.journal.proofs.values.read_step.Needs as need
 

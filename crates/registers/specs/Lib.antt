@@ -1,0 +1,10 @@
+pub mod Limits
+pub mod Taken
+pub mod OfMove
+pub mod Kind
+pub mod Sum
+pub mod Classes
+pub mod Peak
+pub mod Named
+pub mod Mean
+pub mod Examples

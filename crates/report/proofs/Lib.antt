@@ -1,0 +1,6 @@
+pub mod Bounds
+mod Commas
+pub mod Placing
+pub mod Printing
+mod Tails
+pub mod Writing

@@ -1,0 +1,5 @@
+pub mod Fault
+pub mod Figures
+pub mod Lines
+pub mod Placed
+pub mod Printed
