@@ -1,0 +1,4 @@
+pub mod Tables
+pub mod Search
+pub mod SearchLaws
+pub mod Fit
