@@ -1,4 +1,4 @@
 pub mod Tables
-pub mod Search
-pub mod SearchLaws
-pub mod Fit
+pub mod Statuses
+pub mod Commands
+pub mod Advance

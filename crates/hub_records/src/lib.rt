@@ -1,8 +1,5 @@
-// The records of a hub: its cards, its commands, and the hub itself.
+// The records of a hub: its cards, its commands with the way they move on, and the hub itself.
+pub mod advance;
 pub mod cards;
 pub mod commands;
-pub mod fit;
 pub mod hub;
-pub mod search;
-#[cfg(test)]
-mod tests;

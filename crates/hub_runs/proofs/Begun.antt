@@ -8,11 +8,12 @@ use native.Mathlib.Nat.{zero-mul, suc-mul}
 use native.Mathlib.Omega.{arith}
 use lib.IntN.{ℤ}
 use lib.ListN.{length, getD, replicate, length-map, length-replicate}
+use Rattle.hub_records.specs.Commands.{the-backup, the-master}
 use Rattle.hub_records.specs.Tables.{at, blank-card}
 use Rattle.hub_records.specs.declared.commands.Command.{Command}
 use Rattle.hub_records.specs.declared.commands.Phase.the-variants.{Pending, GaveUp}
 use Rattle.hub_records.specs.declared.hub.ExecState.the-variants.{Running, Success, Fatal}
-use Rattle.hub_runs.specs.Hubs.{Size, State, the-master, the-backup, blank-client, all-done}
+use Rattle.hub_runs.specs.Hubs.{Size, State, blank-client, all-done}
 use Rattle.hub_runs.specs.Promises.{times}
 use Rattle.hub_runs.specs.Runs.{Limits, fresh, first-card, made, begun}
 use Rattle.hub_runs.proofs.Rows.{Cards}

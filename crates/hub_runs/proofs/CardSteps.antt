@@ -11,10 +11,11 @@ use Rattle.std.specs.declared.option.Option.the-variants.{None, Some}
 use Rattle.std.proofs.shelf.Tests.{leb-true, ltb-true}
 use Rattle.registers.specs.Kind.{Rule}
 use Rattle.actions.specs.declared.Action.the-variants.{CreatingNewBackup, CreatingNewMaster, KillingMaster, KillingBackup}
-use Rattle.hub_records.specs.Search.{active-card, last-lost}
+use Rattle.hub_records.specs.Commands.{the-backup, the-master}
+use Rattle.hub_tables.specs.Search.{active-card, last-lost}
 use Rattle.hub_records.specs.Tables.{at, put}
 use Rattle.hub_records.specs.declared.commands.Command.{Command}
-use Rattle.hub_runs.specs.Hubs.{Size, State, the-master, the-backup, master-card, backup-card, new-backup, new-master, master-lost, backup-lost}
+use Rattle.hub_runs.specs.Hubs.{Size, State, master-card, backup-card, new-backup, new-master, master-lost, backup-lost}
 use Rattle.hub_runs.specs.Judging.{carried-out}
 use Rattle.hub_runs.specs.Promises.{times}
 use Rattle.hub_runs.specs.Runs.{Lists, number, lists-after}

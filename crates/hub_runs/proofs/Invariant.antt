@@ -11,10 +11,11 @@ use Rattle.std.proofs.shelf.Tests.{and-parts, leb-true, ltb-true}
 use Rattle.registers.specs.Kind.{Rule}
 use Rattle.actions.specs.declared.Action.{Action}
 use Rattle.actions.specs.declared.Action.the-variants.{Starting, MasterDoing, HandlingMasterDone, BackupDoing, DetectingOldMasterId, HandlingBackupDone, HandlingMasterDoFailed, HandlingBackupDoFailed, GettingNewBackup, GettingNewMaster, HandlingBackupGetNewMasterFailed, HandlingMasterGetNewBackupFailed, UpdatingBackupId, UpdatingMasterId, CreatingNewBackup, CreatingNewMaster, KillingMaster, KillingBackup}
+use Rattle.hub_records.specs.Commands.{backup-in, master-in}
 use Rattle.hub_records.specs.declared.hub.ExecState.{ExecState}
 use Rattle.hub_records.specs.declared.hub.ExecState.the-variants.{Running, Success, Fatal}
 use Rattle.hub_runs.specs.Hubs.{Size, State, client}
-use Rattle.hub_runs.specs.Judging.{guard, is-running, judged, master-in, backup-in}
+use Rattle.hub_runs.specs.Judging.{guard, is-running, judged}
 use Rattle.hub_runs.specs.Runs.{Limits, Call, Lists, Run, lists-after, fresh, made, begun, run-of}
 use Rattle.hub_runs.proofs.Keeping.{Keeps, guard-keeps, run-keeps}
 use Rattle.hub_runs.proofs.Fine.{Fine}

@@ -5,11 +5,11 @@ use Prim.Native.Nat.{ℕ, _+_, _-_, _≤_, _<_}
 use native.Mathlib.Omega.{arith}
 use Rattle.std.specs.declared.option.Option.{Option}
 use Rattle.std.specs.declared.option.Option.the-variants.{None, Some}
+use Rattle.hub_records.specs.Commands.{the-backup, the-master}
 use Rattle.hub_records.specs.declared.commands.Message.{Message}
 use Rattle.hub_records.specs.declared.commands.Message.the-variants.{MasterDo, MasterDone, BackupDo, BackupDone, MasterGetNewBackup, BackupGetNewMaster, NewBackupId, NewMasterId}
 use Rattle.hub_records.specs.declared.commands.Phase.{Phase}
 use Rattle.hub_records.specs.declared.commands.Phase.the-variants.{Pending, Working, Done, GaveUp}
-use Rattle.hub_runs.specs.Hubs.{the-master, the-backup}
 use Rattle.hub_runs.proofs.Rows.{Cards, Sane, Between, Row, Known, weight}
 
 -- Where the command comes to, with what it then knows and how often the last lists then hold it.

@@ -12,10 +12,9 @@ use Rattle.std.specs.declared.option.Option.the-variants.{None, Some}
 use Rattle.std.proofs.shelf.Tests.{cases-bool, cond-true, cond-false, eqb-true}
 use Rattle.actions.specs.Letters.{place-of}
 use Rattle.actions.specs.declared.Action.{Action}
+use Rattle.hub_records.specs.Commands.{actions-for, backup-in, is-among, master-in, the-backup, the-master}
 use Rattle.hub_records.specs.declared.commands.Message.{Message}
 use Rattle.hub_records.specs.declared.commands.Message.the-variants.{MasterDo, MasterDone, BackupDo, BackupDone, MasterGetNewBackup, BackupGetNewMaster, NewBackupId, NewMasterId}
-use Rattle.hub_runs.specs.Hubs.{the-master, the-backup}
-use Rattle.hub_runs.specs.Judging.{actions-for, is-among, master-in, backup-in}
 
 -- The kinds of message, numbered; 0 for none.
 abbrev kind : Option Message → ℕ

@@ -5,12 +5,13 @@ use mathlib.Core.Path.{_≡_, refl, sym, ap, subst, _∙_}
 use Prim.Native.Nat.{ℕ, _+_, _-_, _*_, _≤_, _<_}
 use native.Mathlib.Omega.{arith}
 use lib.ListN.{length}
+use Rattle.hub_records.specs.Commands.{the-backup, the-master}
 use Rattle.hub_records.specs.Tables.{at, put, blank-card}
 use Rattle.hub_records.specs.declared.cards.BackupNumber.{BackupNumber}
 use Rattle.hub_records.specs.declared.cards.Card.{Card}
 use Rattle.hub_records.specs.declared.cards.MasterNumber.{MasterNumber}
 use Rattle.hub_records.specs.declared.commands.Command.{Command}
-use Rattle.hub_runs.specs.Hubs.{Size, State, the-master, the-backup, blank-client, client, has-taken}
+use Rattle.hub_runs.specs.Hubs.{Size, State, blank-client, client, has-taken}
 use Rattle.hub_runs.specs.Promises.{times}
 use Rattle.hub_runs.specs.Runs.{Lists, appended}
 use Rattle.hub_runs.proofs.Rows.{Cards, Row, Known, weight}

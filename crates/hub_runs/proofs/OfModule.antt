@@ -13,7 +13,8 @@ use Rattle.registers.specs.Kind.{Rule}
 use Rattle.actions.specs.Letters.{action-of, place-of}
 use Rattle.actions.specs.declared.Action.{Action}
 use Rattle.actions.specs.declared.Action.the-variants.{Starting, MasterDoing, HandlingMasterDone, BackupDoing, DetectingOldMasterId, HandlingBackupDone, HandlingMasterDoFailed, HandlingBackupDoFailed, GettingNewBackup, GettingNewMaster, HandlingBackupGetNewMasterFailed, HandlingMasterGetNewBackupFailed, UpdatingBackupId, UpdatingMasterId, CreatingNewBackup, CreatingNewMaster, KillingMaster, KillingBackup}
-use Rattle.hub_records.specs.Search.{is-active, is-lost}
+use Rattle.hub_records.specs.Commands.{actions-for, backup-in, is-among, is-pending, master-in}
+use Rattle.hub_records.specs.Statuses.{is-active, is-lost}
 use Rattle.hub_records.specs.declared.cards.Status.{Status}
 use Rattle.hub_records.specs.declared.cards.Status.the-variants.{Unused, Active, Lost}
 use Rattle.hub_records.specs.declared.commands.Message.{Message}
@@ -23,7 +24,7 @@ use Rattle.hub_records.specs.declared.commands.Phase.the-variants.{Pending, Wor
 use Rattle.hub_records.specs.declared.hub.ExecState.{ExecState}
 use Rattle.hub_records.specs.declared.hub.ExecState.the-variants.{Running, Success, Fatal}
 use Rattle.hub_runs.specs.Hubs.{Size, State, client}
-use Rattle.hub_runs.specs.Judging.{Answer, denied, moved, guard, with-card, by-card, actions-for, is-among, is-pending, master-in, backup-in, is-ready, is-numbered, may-lose, is-running, carried-out, judged, by-letter, step}
+use Rattle.hub_runs.specs.Judging.{Answer, denied, moved, guard, with-card, by-card, is-ready, is-numbered, may-lose, is-running, carried-out, judged, by-letter, step}
 use Rattle.hub_runs.specs.Module.{IsClient, Next, StepsAreTheModules}
 
 -- ---- the tests, by name

@@ -12,8 +12,9 @@ use Rattle.std.specs.declared.option.Option.{Option}
 use Rattle.std.specs.declared.option.Option.the-variants.{None, Some}
 use Rattle.std.proofs.shelf.Tests.{and-parts, cases-eq}
 use Rattle.registers.specs.Kind.{Rule}
-use Rattle.hub_records.specs.Search.{is-used}
-use Rattle.hub_records.specs.SearchLaws.{status-at}
+use Rattle.hub_records.specs.Commands.{the-backup, the-master}
+use Rattle.hub_records.specs.Statuses.{is-used}
+use Rattle.hub_tables.specs.SearchLaws.{status-at}
 use Rattle.hub_records.specs.Tables.{at}
 use Rattle.hub_records.specs.declared.cards.Card.{Card}
 use Rattle.hub_records.specs.declared.cards.Status.the-variants.{Active, Lost}
@@ -22,7 +23,7 @@ use Rattle.hub_records.specs.declared.commands.Message.{Message}
 use Rattle.hub_records.specs.declared.commands.Phase.{Phase}
 use Rattle.hub_records.specs.declared.commands.Phase.the-variants.{Pending, Working, Done, GaveUp}
 use Rattle.hub_records.specs.declared.hub.ExecState.the-variants.{Running, Success, Fatal}
-use Rattle.hub_runs.specs.Hubs.{Size, State, the-master, the-backup, blank-client, client, master-card, backup-card, is-done, all-done}
+use Rattle.hub_runs.specs.Hubs.{Size, State, blank-client, client, master-card, backup-card, is-done, all-done}
 use Rattle.hub_runs.specs.Judging.{step, moved}
 use Rattle.hub_runs.specs.Law.{Commutes}
 use Rattle.hub_runs.specs.Promises.{times, Holds, NoRepeats, Counted, figures-of, master-list, backup-list, OfRuns, NoCommandIsTakenTwice, DoneCommandsAreInBothLastLists, SuccessCountsEveryCommand, AtMostOneCardOfARoleIsActive, FatalMeansBothCardsOfACommandAreGone, StepsAreCountedAndBounded, SomeStepIsOpen}

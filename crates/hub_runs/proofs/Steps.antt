@@ -13,7 +13,9 @@ use Rattle.std.proofs.shelf.Tests.{eqb-true, eqb-false, not-true}
 use Rattle.registers.specs.Kind.{Rule}
 use Rattle.actions.specs.declared.Action.{Action}
 use Rattle.actions.specs.declared.Action.the-variants.{Starting, MasterDoing, HandlingMasterDone, BackupDoing, DetectingOldMasterId, HandlingBackupDone, HandlingMasterDoFailed, HandlingBackupDoFailed, GettingNewBackup, GettingNewMaster, HandlingBackupGetNewMasterFailed, HandlingMasterGetNewBackupFailed, UpdatingBackupId, UpdatingMasterId}
-use Rattle.hub_records.specs.Search.{is-active, is-lost, active-card}
+use Rattle.hub_records.specs.Commands.{actions-for, backup-in, is-among, is-pending, knows-backup, knows-master, master-in, rests, the-backup, the-master, waits}
+use Rattle.hub_records.specs.Statuses.{is-active, is-lost}
+use Rattle.hub_tables.specs.Search.{active-card}
 use Rattle.hub_records.specs.Tables.{at, put, blank-card}
 use Rattle.hub_records.specs.declared.commands.Command.{Command}
 use Rattle.hub_records.specs.declared.commands.Message.{Message}
@@ -22,8 +24,8 @@ use Rattle.hub_records.specs.declared.commands.Phase.{Phase}
 use Rattle.hub_records.specs.declared.commands.Phase.the-variants.{Pending, Working, Done, GaveUp}
 use Rattle.hub_records.specs.declared.hub.ExecState.{ExecState}
 use Rattle.hub_records.specs.declared.hub.ExecState.the-variants.{Running, Success, Fatal}
-use Rattle.hub_runs.specs.Hubs.{Size, State, the-master, the-backup, client, master-card, backup-card, backup-of, master-of, waits, rests, knows-master, knows-backup, with-client, with-exec, completed, given-up, master-takes, backup-takes, is-done, all-done}
-use Rattle.hub_runs.specs.Judging.{actions-for, is-among, is-pending, master-in, backup-in, carried-out}
+use Rattle.hub_runs.specs.Hubs.{Size, State, client, master-card, backup-card, backup-of, master-of, with-client, with-exec, completed, given-up, master-takes, backup-takes, is-done, all-done}
+use Rattle.hub_runs.specs.Judging.{carried-out}
 use Rattle.hub_runs.specs.Promises.{times}
 use Rattle.hub_runs.specs.Runs.{Lists, appended, lists-after}
 use Rattle.hub_runs.proofs.Keeping.{Keeps, guard-keeps, by-card-keeps}

@@ -13,14 +13,15 @@ use Rattle.std.proofs.shelf.Tests.{cases-eq}
 use Rattle.registers.specs.Kind.{Rule}
 use Rattle.actions.specs.declared.Action.{Action}
 use Rattle.actions.specs.declared.Action.the-variants.{Starting, MasterDoing, HandlingMasterDone, BackupDoing, DetectingOldMasterId, HandlingBackupDone, HandlingMasterDoFailed, HandlingBackupDoFailed, GettingNewBackup, GettingNewMaster, HandlingBackupGetNewMasterFailed, HandlingMasterGetNewBackupFailed, UpdatingBackupId, UpdatingMasterId, CreatingNewBackup, CreatingNewMaster, KillingMaster, KillingBackup}
-use Rattle.hub_records.specs.Search.{active-card}
+use Rattle.hub_records.specs.Commands.{backup-in, master-in, the-backup, the-master}
+use Rattle.hub_tables.specs.Search.{active-card}
 use Rattle.hub_records.specs.Tables.{at, put, blank-card}
 use Rattle.hub_records.specs.declared.cards.Card.{Card}
 use Rattle.hub_records.specs.declared.commands.Command.{Command}
 use Rattle.hub_records.specs.declared.hub.ExecState.{ExecState}
-use Rattle.hub_records.proofs.Searches.{active-card-is}
-use Rattle.hub_runs.specs.Hubs.{Size, State, the-master, the-backup, blank-client, client, master-card, backup-card, has-taken, with-client, with-exec}
-use Rattle.hub_runs.specs.Judging.{master-in, backup-in, carried-out, judged}
+use Rattle.hub_tables.proofs.Searches.{active-card-is}
+use Rattle.hub_runs.specs.Hubs.{Size, State, blank-client, client, master-card, backup-card, has-taken, with-client, with-exec}
+use Rattle.hub_runs.specs.Judging.{carried-out, judged}
 use Rattle.hub_runs.specs.Runs.{Limits, Call, Lists, Run, appended, lists-after, fresh, first-card, made, begun, run-of}
 use Rattle.hub_runs.specs.Promises.{move-of, figures-of, master-list, backup-list}
 use Rattle.hub_runs.proofs.Keeping.{Keeps, guard-keeps, with-card-keeps, by-card-keeps, run-keeps}

@@ -2,7 +2,7 @@
 use mathlib.Core.Path.{refl}
 use Rattle.std.specs.shelf.Signed.{wrapped}
 use Rattle.registers.specs.Mean.{meanOf}
-use Rattle.hub_records.specs.Search.{first, last}
+use Rattle.hub_tables.specs.Search.{first, last}
 use Rattle.hub_runs.specs.Hubs.{all-done}
 use Rattle.hub_runs.specs.Judging.{guard, with-card, by-card, carried-out, judged, by-letter, step}
 use Rattle.hub_runs.specs.Runs.{lists-after, lists-by-letter, after-answer, after, run-of}

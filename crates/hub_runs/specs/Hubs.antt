@@ -8,6 +8,7 @@ use lib.ListN.{getD}
 use Rattle.std.specs.declared.option.Option.{Option}
 use Rattle.std.specs.declared.option.Option.the-variants.{None, Some}
 use Rattle.registers.specs.Kind.{Rule}
+use Rattle.hub_records.specs.Commands.{rests, the-backup, the-master}
 use Rattle.hub_records.specs.Tables.{at, put, blank-card}
 use Rattle.hub_records.specs.declared.cards.BackupNumber.{BackupNumber}
 use Rattle.hub_records.specs.declared.cards.Card.{Card}
@@ -38,13 +39,6 @@ pub record State : Type 0 where
   pub master-figures : List (List ℤ)
   pub backup-figures : List (List ℤ)
 
--- The numbers of cards.
-abbrev pub the-master : ℕ → MasterNumber
-the-master n = record { 0 = n }
-
-abbrev pub the-backup : ℕ → BackupNumber
-the-backup n = record { 0 = n }
-
 -- What stands in the tables under a number.
 abbrev pub blank-client : Command
 blank-client = record { hundredths = pos 0; phase = Pending; «own_master» = the-master 0; «own_backup» = the-backup 0; message = None }
@@ -64,19 +58,6 @@ backup-of s m = master-card s m .partner .0
 
 abbrev pub master-of : State → ℕ → ℕ
 master-of s b = backup-card s b .partner .0
-
--- A client after a change: of what it waits for, and of what it knows.
-abbrev pub waits : Message → Command → Command
-waits msg x = record { hundredths = x .hundredths; phase = Working; «own_master» = x .«own_master»; «own_backup» = x .«own_backup»; message = Some msg }
-
-abbrev pub rests : Phase → Command → Command
-rests phase x = record { hundredths = x .hundredths; phase = phase; «own_master» = x .«own_master»; «own_backup» = x .«own_backup»; message = None }
-
-abbrev pub knows-master : ℕ → Command → Command
-knows-master m x = record { hundredths = x .hundredths; phase = x .phase; «own_master» = the-master m; «own_backup» = x .«own_backup»; message = x .message }
-
-abbrev pub knows-backup : ℕ → Command → Command
-knows-backup b x = record { hundredths = x .hundredths; phase = x .phase; «own_master» = x .«own_master»; «own_backup» = the-backup b; message = x .message }
 
 -- A card after a change.
 abbrev pub has-status : {P : Type 0} → Status → Card P → Card P

@@ -9,14 +9,16 @@ use Rattle.registers.specs.Kind.{Rule}
 use Rattle.actions.specs.Letters.{action-of, place-of, is-of-command}
 use Rattle.actions.specs.declared.Action.{Action}
 use Rattle.actions.specs.declared.Action.the-variants.{Starting, MasterDoing, HandlingMasterDone, BackupDoing, DetectingOldMasterId, HandlingBackupDone, HandlingMasterDoFailed, HandlingBackupDoFailed, GettingNewBackup, GettingNewMaster, HandlingBackupGetNewMasterFailed, HandlingMasterGetNewBackupFailed, UpdatingBackupId, UpdatingMasterId, CreatingNewBackup, CreatingNewMaster, KillingMaster, KillingBackup}
-use Rattle.hub_records.specs.Search.{is-active, is-lost, active-card, last-lost}
+use Rattle.hub_records.specs.Commands.{actions-for, backup-in, is-among, is-pending, knows-backup, knows-master, master-in, rests, the-backup, the-master, waits}
+use Rattle.hub_records.specs.Statuses.{is-active, is-lost}
+use Rattle.hub_tables.specs.Search.{active-card, last-lost}
 use Rattle.hub_records.specs.declared.commands.Message.{Message}
 use Rattle.hub_records.specs.declared.commands.Message.the-variants.{MasterDo, MasterDone, BackupDo, BackupDone, MasterGetNewBackup, BackupGetNewMaster, NewBackupId, NewMasterId}
 use Rattle.hub_records.specs.declared.commands.Phase.{Phase}
 use Rattle.hub_records.specs.declared.commands.Phase.the-variants.{Pending, Working, Done, GaveUp}
 use Rattle.hub_records.specs.declared.hub.ExecState.{ExecState}
 use Rattle.hub_records.specs.declared.hub.ExecState.the-variants.{Running, Success, Fatal}
-use Rattle.hub_runs.specs.Hubs.{Size, State, the-master, the-backup, client, master-card, backup-card, backup-of, master-of, waits, rests, knows-master, knows-backup, with-client, completed, given-up, master-takes, backup-takes, new-backup, new-master, master-lost, backup-lost}
+use Rattle.hub_runs.specs.Hubs.{Size, State, client, master-card, backup-card, backup-of, master-of, with-client, completed, given-up, master-takes, backup-takes, new-backup, new-master, master-lost, backup-lost}
 
 -- What comes of a step: a refusal's number, or the hub's next state.
 pub data Answer : Type 0 where
@@ -37,51 +39,6 @@ with-card (Some a) n next = next a
 unfoldable pub by-card : Option ℕ → Answer → (ℕ → Answer) → Answer
 by-card None without next = without
 by-card (Some a) without next = next a
-
--- The actions that a message is for. While a client holds none, only an action on pending clients can be for it.
-abbrev pub actions-for : Option Message → List Action
-actions-for None = []
-actions-for (Some (MasterDo m)) = MasterDoing ∷ HandlingMasterDoFailed ∷ []
-actions-for (Some (MasterDone m b)) = HandlingMasterDone ∷ []
-actions-for (Some (BackupDo m b)) = BackupDoing ∷ DetectingOldMasterId ∷ HandlingBackupDoFailed ∷ []
-actions-for (Some (BackupDone m b)) = HandlingBackupDone ∷ []
-actions-for (Some (MasterGetNewBackup m b)) = GettingNewBackup ∷ HandlingMasterGetNewBackupFailed ∷ []
-actions-for (Some (BackupGetNewMaster m b)) = GettingNewMaster ∷ HandlingBackupGetNewMasterFailed ∷ []
-actions-for (Some (NewBackupId m b)) = UpdatingBackupId ∷ []
-actions-for (Some (NewMasterId m b)) = UpdatingMasterId ∷ []
-
-abbrev pub is-among : Action → List Action → Bool
-is-among a [] = false
-is-among a (x ∷ xs) = cond (eqb (place-of a) (place-of x)) true (is-among a xs)
-
-abbrev pub is-pending : Phase → Bool
-is-pending Pending = true
-is-pending Working = false
-is-pending Done = false
-is-pending GaveUp = false
-
--- The numbers that a message carries; 0 where there is none.
-abbrev pub master-in : Option Message → ℕ
-master-in None = 0
-master-in (Some (MasterDo m)) = m .0
-master-in (Some (MasterDone m b)) = m .0
-master-in (Some (BackupDo m b)) = m .0
-master-in (Some (BackupDone m b)) = m .0
-master-in (Some (MasterGetNewBackup m b)) = m .0
-master-in (Some (BackupGetNewMaster m b)) = m .0
-master-in (Some (NewBackupId m b)) = m .0
-master-in (Some (NewMasterId m b)) = m .0
-
-abbrev pub backup-in : Option Message → ℕ
-backup-in None = 0
-backup-in (Some (MasterDo m)) = 0
-backup-in (Some (MasterDone m b)) = b .0
-backup-in (Some (BackupDo m b)) = b .0
-backup-in (Some (BackupDone m b)) = b .0
-backup-in (Some (MasterGetNewBackup m b)) = b .0
-backup-in (Some (BackupGetNewMaster m b)) = b .0
-backup-in (Some (NewBackupId m b)) = b .0
-backup-in (Some (NewMasterId m b)) = b .0
 
 -- Whether the client is in the phase, or holds the message, that the action is for. Actions on cards alone ask nothing.
 abbrev pub is-ready : Action → Phase → Option Message → Bool

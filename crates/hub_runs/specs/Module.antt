@@ -12,7 +12,8 @@ use Rattle.registers.specs.Kind.{Rule}
 use Rattle.actions.specs.Letters.{action-of}
 use Rattle.actions.specs.declared.Action.{Action}
 use Rattle.actions.specs.declared.Action.the-variants.{Starting, MasterDoing, HandlingMasterDone, BackupDoing, DetectingOldMasterId, HandlingBackupDone, HandlingMasterDoFailed, HandlingBackupDoFailed, GettingNewBackup, GettingNewMaster, HandlingBackupGetNewMasterFailed, HandlingMasterGetNewBackupFailed, UpdatingBackupId, UpdatingMasterId, CreatingNewBackup, CreatingNewMaster, KillingMaster, KillingBackup}
-use Rattle.hub_records.specs.Search.{active-card, last-lost}
+use Rattle.hub_records.specs.Commands.{knows-backup, knows-master, rests, the-backup, the-master, waits}
+use Rattle.hub_tables.specs.Search.{active-card, last-lost}
 use Rattle.hub_records.specs.declared.cards.BackupNumber.{BackupNumber}
 use Rattle.hub_records.specs.declared.cards.MasterNumber.{MasterNumber}
 use Rattle.hub_records.specs.declared.cards.Status.the-variants.{Active, Lost}
@@ -20,7 +21,7 @@ use Rattle.hub_records.specs.declared.commands.Message.{Message}
 use Rattle.hub_records.specs.declared.commands.Message.the-variants.{MasterDo, MasterDone, BackupDo, BackupDone, MasterGetNewBackup, BackupGetNewMaster, NewBackupId, NewMasterId}
 use Rattle.hub_records.specs.declared.commands.Phase.the-variants.{Pending, Done}
 use Rattle.hub_records.specs.declared.hub.ExecState.the-variants.{Running}
-use Rattle.hub_runs.specs.Hubs.{Size, State, the-master, the-backup, client, master-card, backup-card, backup-of, master-of, waits, rests, knows-master, knows-backup, with-client, completed, given-up, master-takes, backup-takes, new-backup, new-master, master-lost, backup-lost}
+use Rattle.hub_runs.specs.Hubs.{Size, State, client, master-card, backup-card, backup-of, master-of, with-client, completed, given-up, master-takes, backup-takes, new-backup, new-master, master-lost, backup-lost}
 use Rattle.hub_runs.specs.Judging.{moved, step}
 
 -- The client's message is this one.

@@ -11,7 +11,7 @@ use lib.ListN.{length}
 use Rattle.std.specs.Iters.{folded}
 use Rattle.registers.specs.Kind.{Rule}
 use Rattle.registers.specs.Taken.{Taken, InRange}
-use Rattle.hub_records.specs.Search.{is-used}
+use Rattle.hub_records.specs.Statuses.{is-used}
 use Rattle.hub_records.specs.Tables.{at}
 use Rattle.hub_records.specs.declared.cards.Card.{Card}
 use Rattle.hub_records.specs.declared.cards.Status.the-variants.{Active, Lost}

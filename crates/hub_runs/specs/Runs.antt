@@ -15,7 +15,8 @@ use Rattle.registers.specs.Taken.{InRange}
 use Rattle.actions.specs.Letters.{action-of}
 use Rattle.actions.specs.declared.Action.{Action}
 use Rattle.actions.specs.declared.Action.the-variants.{Starting, MasterDoing, HandlingMasterDone, BackupDoing, DetectingOldMasterId, HandlingBackupDone, HandlingMasterDoFailed, HandlingBackupDoFailed, GettingNewBackup, GettingNewMaster, HandlingBackupGetNewMasterFailed, HandlingMasterGetNewBackupFailed, UpdatingBackupId, UpdatingMasterId, CreatingNewBackup, CreatingNewMaster, KillingMaster, KillingBackup}
-use Rattle.hub_records.specs.Search.{active-card, last-lost, last-card}
+use Rattle.hub_records.specs.Commands.{backup-in, master-in, the-backup, the-master}
+use Rattle.hub_tables.specs.Search.{active-card, last-lost, last-card}
 use Rattle.hub_records.specs.Tables.{at, put, blank-card}
 use Rattle.hub_records.specs.declared.cards.Card.{Card}
 use Rattle.hub_records.specs.declared.cards.Status.the-variants.{Unused, Active, Lost}
@@ -23,8 +24,8 @@ use Rattle.hub_records.specs.declared.commands.Command.{Command}
 use Rattle.hub_records.specs.declared.commands.Phase.the-variants.{Pending}
 use Rattle.hub_records.specs.declared.hub.ExecState.{ExecState}
 use Rattle.hub_records.specs.declared.hub.ExecState.the-variants.{Running, Success, Fatal}
-use Rattle.hub_runs.specs.Hubs.{Size, State, the-master, the-backup, client, master-card, backup-card, is-done}
-use Rattle.hub_runs.specs.Judging.{Answer, denied, moved, master-in, backup-in, step}
+use Rattle.hub_runs.specs.Hubs.{Size, State, client, master-card, backup-card, is-done}
+use Rattle.hub_runs.specs.Judging.{Answer, denied, moved, step}
 
 -- Which sizes and moves a hub can be made with.
 pub record Limits (size : Size) (moves : List ℤ) : Type 0 where

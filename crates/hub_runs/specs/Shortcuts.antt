@@ -5,12 +5,13 @@ use Prim.Native.Nat.{ℕ}
 use lib.Chars.{codes}
 use Rattle.std.specs.Iters.{folded}
 use Rattle.registers.specs.Sum.{sum-rule}
+use Rattle.hub_records.specs.Commands.{backup-in, knows-backup, master-in, rests, the-backup, the-master, waits}
 use Rattle.hub_records.specs.declared.cards.Status.the-variants.{Lost}
 use Rattle.hub_records.specs.declared.commands.Message.the-variants.{BackupDo, BackupDone}
 use Rattle.hub_records.specs.declared.commands.Phase.the-variants.{Pending}
 use Rattle.hub_records.specs.declared.hub.ExecState.the-variants.{Success}
-use Rattle.hub_runs.specs.Hubs.{Size, State, the-master, the-backup, client, master-card, backup-card, backup-of, waits, rests, knows-backup, with-client, backup-takes}
-use Rattle.hub_runs.specs.Judging.{moved, master-in, backup-in}
+use Rattle.hub_runs.specs.Hubs.{Size, State, client, master-card, backup-card, backup-of, with-client, backup-takes}
+use Rattle.hub_runs.specs.Judging.{moved}
 use Rattle.hub_runs.specs.Promises.{master-list, backup-list}
 use Rattle.hub_runs.specs.Runs.{Run, after-answer, after}
 use Rattle.hub_runs.specs.WorkedRuns.{sized, by-letters, worked}
