@@ -1,5 +1,7 @@
 // The eighteen actions of the replication protocol, under the names of the TLA+ module
 // AsyncFinishReplication without its role prefixes, and the letters by which journals and callers name them.
+#![tactic(auto)]
+
 ghost use Rattle.std.specs.Prelude.{◌≡◌, ◌+◌};
 ghost use Rattle.actions.specs.Letters.{action_of, is_of_command, letter_of, place_of};
 

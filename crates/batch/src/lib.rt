@@ -1,4 +1,6 @@
 // What a batch must come to: the journal read from start to end, and its totals as text.
+#![tactic(auto)]
+
 mod batch;
 mod reading;
 mod showing;

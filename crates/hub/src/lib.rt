@@ -1,4 +1,6 @@
 // The hub's calls, over tables that the caller lends: making a hub, a step, a look, and any list of steps and looks.
+#![tactic(auto)]
+
 mod calls;
 mod looking;
 mod running;

@@ -1,4 +1,6 @@
 // The library for programs in C: a journal goes in, and its report or its fault print comes out.
+#![tactic(auto)]
+
 ghost use Rattle.hub_c.specs.Shown.{WritesShown};
 ghost use Rattle.showing.specs.Showing.{text_shown};
 

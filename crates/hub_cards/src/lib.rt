@@ -1,4 +1,6 @@
 // Cards, and the numbers by which they are known.
+#![tactic(auto)]
+
 ghost use Rattle.std.specs.Prelude.{◌≡◌, ℕ};
 ghost use Rattle.hub_cards.specs.Statuses.{is_active, is_lost, is_used};
 

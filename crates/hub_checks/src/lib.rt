@@ -1,4 +1,6 @@
 // Checks of the hub's calls on examples worked out by hand from docs/hub.md and docs/refusals.md.
+#![tactic(auto)]
+
 #[cfg(test)]
 mod lists;
 #[cfg(test)]

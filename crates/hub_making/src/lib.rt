@@ -1,4 +1,6 @@
 // Making a hub on tables that the caller lends.
+#![tactic(auto)]
+
 ghost use Rattle.std.specs.Prelude.{◌≡◌, ◌≤◌, false, map, length, replicate, MatchOption};
 ghost use Rattle.hub_runs.specs.Runs.{first_card, fresh};
 ghost use Rattle.hub_runs.specs.States.{lent};

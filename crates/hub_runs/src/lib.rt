@@ -1,4 +1,6 @@
 // What every run of a hub keeps: the model of the steps, the runs, and the promises about them.
+#![tactic(auto)]
+
 mod model;
 mod promises;
 

@@ -1,5 +1,7 @@
 // An example of the hub's calls: two commands, a master that is lost while both are under way, and the success.
 // After every step it looks, and prints both answers.
+#![tactic(auto)]
+
 use anyhow::anyhow;
 use hub::{Answer, Call, run};
 use hub_cards::*;

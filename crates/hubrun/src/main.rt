@@ -1,5 +1,7 @@
 // hubrun takes a journal on standard input. It prints what both cards must show when the batch is finished,
 // or the fault with its line. All that matters is in the library: here bytes are read and written.
+#![tactic(auto)]
+
 use anyhow::anyhow;
 use batch::{Shown, show};
 use std::io::{Read, Write};

@@ -1,4 +1,6 @@
 // Reading a journal: lines of `key=value` in a fixed order, each ended by a line feed.
+#![tactic(auto)]
+
 mod due;
 pub mod keys;
 pub mod lines;

@@ -1,3 +1,5 @@
 // Checks of the journal reader and of what is shown of a journal, on examples worked out by hand.
+#![tactic(auto)]
+
 #[cfg(test)]
 mod tests;

@@ -2,6 +2,8 @@
 // Each argument names a file that holds journals one behind the other: a line with the journal's name, a line with
 // its length in bytes, and then its bytes. Lengths are told because a journal may hold any bytes and end anywhere.
 // Of each journal the name is printed, and then its report or its fault print.
+#![tactic(auto)]
+
 use anyhow::anyhow;
 use showing::{Shown, show};
 use std::fs::File;

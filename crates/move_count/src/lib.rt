@@ -1,4 +1,6 @@
 // A register that none of the named kinds is: it counts the moves, and answers 0 for its kind.
+#![tactic(auto)]
+
 ghost use Rattle.std.specs.Prelude.{◌^◌, ◌<◌, [], ◌∷◌, pos};
 ghost use Rattle.move_count.specs.Count.{count_rule, count_start, IsMoveCount};
 ghost use Rattle.std.proofs.Common.{rules, arith};

@@ -1,5 +1,7 @@
 // Why a call is denied: one list of causes for every call of the library.
 // specs/Refusals.antt gives each cause its number and what comes with it; docs/refusals.md explains them.
+#![tactic(auto)]
+
 ghost use Rattle.std.specs.Prelude.{◌≡◌};
 ghost use Rattle.refusals.specs.Refusals.{number_of, line_of};
 

@@ -1,4 +1,6 @@
 // Registers of pitch moves: the interface of a register, three kinds of it, and the mean of a sum.
+#![tactic(auto)]
+
 mod classes;
 mod examples;
 mod means;

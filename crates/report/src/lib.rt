@@ -1,5 +1,7 @@
 // Text in a buffer that the caller lends: pieces, numbers, lines, and the print of a fault.
 // Nothing here allocates, and no call writes a part of what it was asked to write.
+#![tactic(auto)]
+
 mod digits;
 mod fault;
 mod figures;

@@ -1,4 +1,6 @@
 // From the bytes of a journal to the text that is shown of it.
+#![tactic(auto)]
+
 mod showing;
 mod shown;
 
