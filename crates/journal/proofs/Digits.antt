@@ -1,8 +1,8 @@
 -- Reading digits from the left: what is still to be read decides the answer.
-use Rattle.std.proofs.Common.{◌≡◌, ℕ, ◌+◌, ◌-◌, ◌*◌, ◌<◌, ◌≤◌, Bool, true, false, cond, not, ◌&&◌, ◌||◌, eqb, leb, List, [], ◌∷◌, length, get_or, drop, Some, None, Option, sym, refl, ap, ◌∙◌, arith}
+use Rattle.std.proofs.Common.{◌≡◌, ℕ, ◌+◌, ◌-◌, ◌*◌, ◌<◌, ◌≤◌, true, false, cond, ◌&&◌, leb, List, [], ◌∷◌, length, get_or, Some, None, Option, ap, arith}
 use Rattle.std.proofs.lemmas.Bool.{cond-false, and_left, and_right, lt-leb}
 use Rattle.std.proofs.lemmas.Bool.Decides.{nat_tests}
-use Rattle.journal.specs.Numbers.{is_digit, are_digits, worth_after, worth, is_empty, is_number, number_up_to}
+use Rattle.journal.specs.Numbers.{is_digit, are_digits, worth_after, number_up_to}
 
 -- The answer where digits worth `n` were read and `bs` are left.
 unfoldable pub remaining : ℕ → ℕ → List ℕ → Option ℕ

@@ -1,12 +1,12 @@
 -- Where a text is cut: at its first line feed, and behind a front.
-use Rattle.std.proofs.Common.{◌≡◌, ℕ, zero, suc, ◌+◌, ◌<◌, true, false, cond, eqb, ◌⊎◌, List, [], ◌∷◌, ◌++◌, length, get_or, take, drop, Some, None, Option, sym, refl, ap, ◌∙◌, inl, inr, ⊎_elim, append_assoc, add-one, arith, length-append, take-append-drop, Bor, MatchOption}
+use Rattle.std.proofs.Common.{◌≡◌, ℕ, zero, suc, ◌+◌, ◌<◌, List, [], ◌∷◌, ◌++◌, length, get_or, take, drop, Some, None, Option, sym, refl, ap, ◌∙◌, ⊎_elim, append_assoc, add-one, arith, length-append, take-append-drop, Bor, MatchOption}
 use Rattle.std.specs.Option.{option_map}
 use Rattle.std.proofs.lemmas.List.{length-take-le, drop_more}
 use Rattle.std.proofs.lemmas.Bool.{cond-true, cond-false, eq-eqb, ne_eqb, cases_eq}
 use Rattle.journal.specs.Keys.{front_of}
 use Rattle.journal.specs.Outcomes.{value_at, Stands, line_length}
 use Rattle.journal.specs.declared.keys.Key.{Key}
-use Rattle.journal.specs.Rows.{Rows, FirstRow, end, cut, row, byte_before, rows_of, rest_without_feed, after_front}
+use Rattle.journal.specs.Rows.{FirstRow, cut, row, byte_before, rows_of, rest_without_feed, after_front}
 
 -- The first byte is the line feed, or it stands before the rows of the others.
 at_feed : (b : ℕ) (bs : List ℕ) → b ≡ 10 → rows_of (b ∷ bs) ≡ row [] (rows_of bs)

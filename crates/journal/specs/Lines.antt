@@ -1,5 +1,5 @@
 -- What a line that was handed out says, and which bytes of the journal it holds.
-use Rattle.std.specs.Prelude.{◌≡◌, ℕ, ◌+◌, ◌≤◌, List, drop, unsigned_abs}
+use Rattle.std.specs.Prelude.{◌≡◌, ◌+◌, ◌≤◌, drop, unsigned_abs}
 use Rattle.journal.specs.Values.{Entry, commands, kills, cards, register, move, step}
 use Rattle.journal.specs.declared.lines.Part.{Part}
 use Rattle.journal.specs.declared.lines.Line.{Line}

@@ -3,21 +3,21 @@ use Rattle.journal.specs.Lines.{entry_of}
 use Rattle.journal.proofs.Outcomes.{not_due, of_value, passed_as}
 use Rattle.journal.proofs.due.take_line.Goals as goal
 
-pub returns-in-default : goal.returns-in-default
-returns-in-default c =
-    record { says = not_due _ _ _ _ c.in-default.ensures.0; moves = c.drop-guard.ensures }
+pub returns-in_default : goal.returns-in_default
+returns-in_default c =
+    record { says = not_due _ _ _ _ c.in_default.ensures.0; moves = c.drop-guard.ensures }
 
-pub returns-in-default-read-value : goal.returns-in-default-read-value
-returns-in-default-read-value c =
+pub returns-in_default-read_value : goal.returns-in_default-read_value
+returns-in_default-read_value c =
     let passed = c.in-Some.ensures in
-    let read = c.in-default-read-value.ensures in
-    record { says = of_value _ _ _ _ _ None passed.stands read.says; moves = c.drop-guard-in-default-read-value.ensures }
+    let read = c.in_default-read_value.ensures in
+    record { says = of_value _ _ _ _ _ None passed.stands read.says; moves = c.drop-guard-in_default-read_value.ensures }
 
 pub returns : goal.returns
 returns c =
     let passed = c.in-Some.ensures in
-    let read = c.in-Some-read-value.ensures in
+    let read = c.in-Some-read_value.ensures in
     record {
-      says = of_value _ _ _ _ _ (Some (entry_of c.in-Some-read-value.line)) passed.stands read.says;
+      says = of_value _ _ _ _ _ (Some (entry_of c.in-Some-read_value.line)) passed.stands read.says;
       moves = (passed_as passed c.accept.ensures read.parts.0, read.parts.1);
     }

@@ -1,10 +1,10 @@
-use Rattle.std.proofs.Common.{◌≡◌, ◌+◌, length, drop, sym, refl, ap, ◌∙◌, arith}
+use Rattle.std.proofs.Common.{◌≡◌, length, refl, ap, arith}
 use Rattle.std.proofs.lemmas.List.{take_rest}
 use Rattle.journal.specs.Keys.{front_of}
 use Rattle.journal.proofs.due.take_value.Goals as goal
 
-pub returns-in-default : goal.returns-in-default
-returns-in-default c = (simp take_rest at c.in-default.ensures, refl)
+pub returns-in_default : goal.returns-in_default
+returns-in_default c = (simp take_rest at c.in_default.ensures, refl)
 
 pub returns : goal.returns
 returns c =

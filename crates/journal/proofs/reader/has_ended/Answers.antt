@@ -4,7 +4,7 @@ use Rattle.journal.specs.Outcomes.{is_end}
 use Rattle.journal.proofs.Outcomes.{ends_from}
 use Rattle.journal.proofs.reader.has_ended.Goals as goal
 
-pub returns-then-may-end : goal.returns-then-may-end
-returns-then-may-end c =
+pub returns-then-may_end : goal.returns-then-may_end
+returns-then-may_end c =
     let text = c.args.text.now in
-    ends_from text c.args.at ∙ ap (λ may. may && is_end (rows_of (drop c.args.at text))) c.if-may-end.ensures
+    ends_from text c.args.at ∙ ap (λ may. may && is_end (rows_of (drop c.args.at text))) c.if-may_end.ensures

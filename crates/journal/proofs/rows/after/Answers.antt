@@ -11,4 +11,4 @@ by_case text front None none = sym (after_front_none front text none)
 by_case text front (Some x) e = sym (ap (after_front front) e ∙ after_front_some front x.now)
 
 pub returns : goal.returns
-returns c = by_case c.args.text.now c.args.front.now c.strip-prefix.result (strip_prefix_is Decides-eqb _ _ _ c.strip-prefix.ensures.cases)
+returns c = by_case c.args.text.now c.args.front.now c.strip_prefix.result (strip_prefix_is Decides-eqb _ _ _ c.strip_prefix.ensures.cases)

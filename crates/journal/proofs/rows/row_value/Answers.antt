@@ -2,8 +2,8 @@ use Rattle.std.proofs.Common.{◌≡◌, ◌-◌, arith}
 use Rattle.journal.proofs.Splits.{no_value, found_or_not}
 use Rattle.journal.proofs.rows.row_value.Goals as goal
 
-pub returns-in-default : goal.returns-in-default
-returns-in-default c = no_value _ _ c.in-default.ensures
+pub returns-in_default : goal.returns-in_default
+returns-in_default c = no_value _ _ c.in_default.ensures
 
 pub returns : goal.returns
 returns c =
