@@ -10,14 +10,14 @@ pub loop-card-preserved : goal.loop-card-preserved
 loop-card-preserved g c =
     let test = card_fits g.P.CardNumber.plain c.args.cards in
     c.loop-card.invariant
-    ∙ pass_more test c.args.table.now c.loop-card.card-index c.card-item.result c.card-item.result _ c.loop-card-test.true c.card-item.is c.if-not-card-fits.ensures
+    ∙ pass_more test c.args.table.now c.loop-card.card-index c.card-item.result c.card-item.result _ c.loop-card-test.true c.card-item.is c.if-not-card_fits.ensures
 
-pub returns-then-not-card-fits : goal.returns-then-not-card-fits
-returns-then-not-card-fits g c =
+pub returns-then-not-card_fits : goal.returns-then-not-card_fits
+returns-then-not-card_fits g c =
     let test = card_fits g.P.CardNumber.plain c.args.cards in
     sym
     (c.loop-card.invariant
-    ∙ pass_more test c.args.table.now c.loop-card.card-index c.card-item.result c.card-item.result _ c.loop-card-test.true c.card-item.is c.if-not-card-fits.ensures)
+    ∙ pass_more test c.args.table.now c.loop-card.card-index c.card-item.result c.card-item.result _ c.loop-card-test.true c.card-item.is c.if-not-card_fits.ensures)
 
 pub returns : goal.returns
 returns g c =

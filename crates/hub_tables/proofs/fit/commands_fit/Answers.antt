@@ -9,13 +9,13 @@ use Rattle.hub_tables.proofs.fit.commands_fit.Goals as goal
 pub loop-command-preserved : goal.loop-command-preserved
 loop-command-preserved c =
     c.loop-command.invariant
-    ∙ pass_more (command_fits c.args.cards) c.args.commands.now c.loop-command.command-index _ _ _ c.loop-command-test.true refl c.if-not-command-fits.ensures
+    ∙ pass_more (command_fits c.args.cards) c.args.commands.now c.loop-command.command-index _ _ _ c.loop-command-test.true refl c.if-not-command_fits.ensures
 
-pub returns-then-not-command-fits : goal.returns-then-not-command-fits
-returns-then-not-command-fits c =
+pub returns-then-not-command_fits : goal.returns-then-not-command_fits
+returns-then-not-command_fits c =
     sym
     (c.loop-command.invariant
-    ∙ pass_more (command_fits c.args.cards) c.args.commands.now c.loop-command.command-index _ _ _ c.loop-command-test.true refl c.if-not-command-fits.ensures)
+    ∙ pass_more (command_fits c.args.cards) c.args.commands.now c.loop-command.command-index _ _ _ c.loop-command-test.true refl c.if-not-command_fits.ensures)
 
 pub returns : goal.returns
 returns c =

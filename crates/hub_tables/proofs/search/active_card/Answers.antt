@@ -12,12 +12,12 @@ pub loop-i-preserved : goal.loop-i-preserved
 loop-i-preserved g c =
     c.loop-i.invariant
     ∙ first_step is_active c.args.cards.now c.loop-i.i c.index-cards-i.result c.loop-i-test.true c.index-cards-i.is
-    ∙ cond-false _ _ _ (sym c.if-is-active.ensures)
+    ∙ cond-false _ _ _ (sym c.if-is_active.ensures)
 
-pub returns-then-is-active : goal.returns-then-is-active
-returns-then-is-active g c =
+pub returns-then-is_active : goal.returns-then-is_active
+returns-then-is_active g c =
     ap Some c.new.ensures
-    ∙ sym (cond-true _ _ _ (sym c.if-is-active.ensures))
+    ∙ sym (cond-true _ _ _ (sym c.if-is_active.ensures))
     ∙ sym (first_step is_active c.args.cards.now c.loop-i.i c.index-cards-i.result c.loop-i-test.true c.index-cards-i.is)
     ∙ sym c.loop-i.invariant
 

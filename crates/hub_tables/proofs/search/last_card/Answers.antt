@@ -6,7 +6,7 @@ use Rattle.hub_cards.specs.Statuses.{is_used}
 use Rattle.hub_tables.specs.Search.{or_else}
 use Rattle.hub_tables.proofs.SearchSteps.{last_end, last_start, last_step}
 use Rattle.hub_tables.proofs.search.last_card.Goals as goal
-use Rattle.hub_tables.proofs.search.last_card.Goals.{then-is-used, else-is-used}
+use Rattle.hub_tables.proofs.search.last_card.Goals.{then-is_used, else-is_used}
 
 pub loop-i-init : goal.loop-i-init
 loop-i-init g c = last_start is_used c.args.cards.now
@@ -17,7 +17,7 @@ loop-i-preserved g c =
     ∙ last_step is_used c.args.cards.now c.loop-i.i c.index-cards-i.result _ c.loop-i-test.true c.index-cards-i.is
     ∙ ap
     (or_else _)
-    (elim c.if-is-used.branch [ then-is-used w ↦ cond-true _ _ _ (sym w.if-is-used.ensures) ∙ sym (ap (option_map g.N.CardNumber.plain) w.used-is ∙ ap Some w.new.ensures) | else-is-used w ↦ cond-false _ _ _ (sym w.if-is-used.ensures) ∙ sym (ap (option_map g.N.CardNumber.plain) w.used-is) ])
+    (elim c.if-is_used.branch [ then-is_used w ↦ cond-true _ _ _ (sym w.if-is_used.ensures) ∙ sym (ap (option_map g.N.CardNumber.plain) w.used-is ∙ ap Some w.new.ensures) | else-is_used w ↦ cond-false _ _ _ (sym w.if-is_used.ensures) ∙ sym (ap (option_map g.N.CardNumber.plain) w.used-is) ])
 
 pub returns : goal.returns
 returns g c = sym (c.loop-i.invariant ∙ last_end is_used c.args.cards.now c.loop-i.i _ c.loop-i-test.false)
