@@ -16,7 +16,7 @@ use Rattle.hub_records.specs.declared.commands.Command.{Command}
 use Rattle.hub_records.specs.declared.commands.Message.{Message}
 use Rattle.hub_records.specs.declared.commands.Message.TheVariants.{MasterDo, MasterDone, BackupDo, BackupDone, MasterGetNewBackup, BackupGetNewMaster, NewBackupId, NewMasterId}
 use Rattle.hub_records.specs.declared.commands.Phase.{Phase}
-use Rattle.hub_records.specs.declared.commands.Phase.TheVariants.{Pending, Working, Done, GaveUp}
+use Rattle.hub_records.specs.declared.commands.Phase.TheVariants.{Pending, Done, GaveUp}
 
 -- A refusal's number, or the command as it then is and what its step does besides.
 pub data Advance : Type 0 where

@@ -2,6 +2,7 @@
 #![tactic(auto)]
 
 pub mod advance;
+pub mod cards;
 pub mod commands;
 pub mod hub;
 pub mod look;
