@@ -1,8 +1,10 @@
 -- The mean that is computed is a mean, and every mean is that one.
-use Rattle.std.proofs.Common.{◌≡◌, ℕ, zero, suc, ◌*◌, ◌<◌, Bool, false, ℤ, pos, negsuc, ◌*ℤ◌, neg_ℤ, nat_abs, Some, None, Decides, Option, sym, refl, ap, ◌∙◌, subst, ⊎_elim, suc-mul, zero-mul, arith, MatchOption}
+use Rattle.std.proofs.Common.{◌≡◌, ℕ, zero, suc, ◌*◌, ◌<◌, Bool, ℤ, pos, negsuc, ◌*ℤ◌, neg_ℤ, nat_abs, Some, None, Decides, Option, sym, refl, ap, ◌∙◌, subst, ⊎_elim, suc-mul, zero-mul, arith}
 use Rattle.std.proofs.lemmas.Int.{ints}
 use Rattle.std.proofs.lemmas.Bool.{both_ways, cases_lt}
-use Rattle.std.proofs.lemmas.Bool.Decides.{nat_tests}
+use Rattle.std.proofs.lemmas.Bool.Decides.{Decides-int_eq, nat_tests}
+use Rattle.std.specs.Option.{option_eq}
+use Rattle.std.specs.Ordering.{int_eq}
 use Rattle.registers.specs.Mean.{ComputesMean, IsMean, meanOf, MeanIs, Nearest, NoneNearer, off, OneMean, rounded, with_sign}
 use Rattle.registers.proofs.Sizes.{off_size, only_rounded, rounded_is}
 
@@ -66,7 +68,8 @@ computes_mean s zero = subst (MeanIs s zero) (unanswered s zero refl) refl
 computes_mean s (suc n) = let found = answered s (suc n) _ (omega arith) refl in subst (MeanIs s (suc n)) found.0 found.1
 
 -- to compare with the answered mean tells whether a number is a mean
-pub decided : (s : ℤ) (v : ℕ) (q : ℤ) (o : Option ℤ) (b : Bool) → MeanIs s v o → MatchOption o (b ≡ false) (λ x. Decides b (x ≡ q)) → Decides b ((0 < v) × IsMean s v q)
+pub decided : (s : ℤ) (v : ℕ) (q : ℤ) (o : Option ℤ) (b : Bool) → MeanIs s v o → b ≡ option_eq int_eq o (Some q) → Decides b ((0 < v) × IsMean s v q)
 decided s v q None b none same = (λ yes. absurd (both_ways b same yes), λ is. let z : ⊥ = omega (arith, is.0) in absurd z)
 decided s v q (Some x) b mean same =
-    (λ yes. (mean.0, subst (IsMean s v) (same.0 yes) mean.1), λ is. same.1 (one_mean s v x q is.0 mean.1 is.1))
+    let equal = Decides-int_eq x q in
+    (λ yes. (mean.0, subst (IsMean s v) (equal.0 (sym same ∙ yes)) mean.1), λ is. same ∙ equal.1 (one_mean s v x q is.0 mean.1 is.1))

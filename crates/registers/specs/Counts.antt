@@ -4,6 +4,7 @@ use Rattle.std.proofs.Common.{⊎_elim, sym, ap, subst, ◌∙◌, arith}
 use Rattle.std.proofs.lemmas.List.{set_comm, get_or-set_other, map-set, get_or-map}
 use Rattle.std.proofs.lemmas.Bool.{cases_eq}
 use Rattle.std.proofs.lemmas.Bool.Decides.{nat_tests}
+use Rattle.registers.specs.Kind.{Fits64}
 use Rattle.registers.specs.Classes.{class_begins, class_of, counted, one_more, reached, IsCount}
 
 apart : (f : List ℤ) (j k : ℕ) → (j ≢ k) → counted (counted f j) k ≡ slice_set (slice_set f j (one_more (slice_index_or f j (pos 0)))) k (one_more (slice_index_or f k (pos 0)))
@@ -35,3 +36,8 @@ class_below s = omega (arith, reached_le class_begins s)
 pub counted_map : (cs : List ℕ) (k : ℕ) → k < length cs → map pos (slice_set cs k (min (slice_index cs k + 1) (2 ^ 32 - 1))) ≡ counted (map pos cs) k
 counted_map cs k within =
     map-set pos cs k _ ∙ ap (set (map pos cs) k) (one_more_is (slice_index cs k) ∙ ap one_more (sym (get_or-map pos cs k 0 (pos 0) within)))
+
+-- a count fits a figure
+pub count_fits : (c : ℤ) → IsCount c → Fits64 c
+count_fits (pos n) own = omega arith
+count_fits (negsuc n) own = absurd own

@@ -9,5 +9,4 @@ pub mod Named
 pub mod Mean
 pub mod Examples
 pub mod Counts
-pub mod ClassesRegisterLemmas
 pub mod Sums

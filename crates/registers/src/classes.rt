@@ -5,9 +5,8 @@ ghost use Rattle.std.proofs.lemmas.List.{length-map};
 ghost use Rattle.registers.specs.Classes.{class_of, classes_rule, classes_start, IsClasses, IsCount};
 ghost use Rattle.std.proofs.ByRecursion.{All-map, All-from_get_or, All-get_or, All-set, All-weaker};
 ghost use Rattle.registers.specs.Limits.{size_of};
-ghost use Rattle.registers.specs.Counts.{class_below, one_more_counts, counted_either_order};
+ghost use Rattle.registers.specs.Counts.{class_below, count_fits, one_more_counts, counted_either_order};
 ghost use Rattle.registers.specs.Kind.{Fits64};
-ghost use Rattle.registers.specs.ClassesRegisterLemmas.{count_fits};
 
 use super::moves::Move;
 use super::register::Register;
@@ -54,7 +53,7 @@ impl Register for Classes {
 
     ghost own = { λ x. (length-map x.counts pos ∙ x.eight, All-map IsCount pos x.counts (All-from_get_or (λ n. n < 2 ^ 32) x.counts 0 x.fit)) };
 
-    ghost begins = { first_of (Prim.search rules, Prim.grind (arith, Self.row.coded.inj)) };
+    ghost begins = { Prim.search rules };
 
     ghost keeps = { λ f t own range.
         let k : ℕ = class_of (size_of t) in
@@ -62,15 +61,15 @@ impl Register for Classes {
         let more = one_more_counts (slice_index_or f k (pos 0)) (All-get_or IsCount f k (pos 0) within own.1) in
         (length-set f k _ ∙ own.0, All-set IsCount f k _ more own.1) };
 
-    ghost sized = { first_of (Prim.search rules, Prim.grind (arith, Self.row.coded.inj)) };
+    ghost sized = { Prim.search rules };
 
-    ghost small = { first_of (Prim.search rules, Prim.grind (arith, Self.row.coded.inj)) };
+    ghost small = { Prim.search rules };
 
     ghost fits = { λ f own. All-weaker IsCount Fits64 count_fits f own.1 };
 
     ghost commutes = { λ f s t own _ _. counted_either_order f _ _ };
 
-    ghost named = { first_of (Prim.search rules, Prim.grind (arith, Self.row.coded.inj)) };
+    ghost named = { Prim.search rules };
 
     fn empty() -> Classes {
         Classes {

@@ -30,9 +30,9 @@ impl Register for Sum {
 
     ghost code = { 1 };
 
-    ghost own = { first_of (Prim.search rules, Prim.grind (arith, Self.row.coded.inj)) };
+    ghost own = { Prim.search rules };
 
-    ghost begins = { first_of (Prim.search rules, Prim.grind (arith, Self.row.coded.inj)) };
+    ghost begins = { Prim.search rules };
 
     ghost keeps = { elim [
       | [] ↦ λ t own range. own
@@ -40,18 +40,18 @@ impl Register for Sum {
       | s ∷ q ∷ rest ↦ λ t own range. own
     ] };
 
-    ghost sized = { first_of (Prim.search rules, Prim.grind (arith, Self.row.coded.inj)) };
+    ghost sized = { Prim.search rules };
 
-    ghost small = { first_of (Prim.search rules, Prim.grind (arith, Self.row.coded.inj)) };
+    ghost small = { Prim.search rules };
 
-    ghost fits = { first_of (Prim.search rules, Prim.grind (arith, Self.row.coded.inj)) };
+    ghost fits = { Prim.search rules };
 
     ghost commutes = { elim [
       | [] ↦ λ a b own _ _. refl
       | s ∷ rest ↦ λ a b own _ _. ap (λ z. z ∷ rest) (wrapped_either_order s a b)
     ] };
 
-    ghost named = { first_of (Prim.search rules, Prim.grind (arith, Self.row.coded.inj)) };
+    ghost named = { Prim.search rules };
 
     fn empty() -> Sum {
         Sum { total: 0 }

@@ -6,7 +6,7 @@ use super::*;
 
 // The two moves in the given order, of which the contract speaks in the other: every kind's law lets it.
 fn take_both<R: Register>(register: &mut R, first: Move, second: Move)
-    ensures { figures register.new ≡ rule (rule (figures register.old) (taken_of second)) (taken_of first) }
+    ensures { R.figures register.new ≡ R.rule (R.rule (R.figures register.old) (taken_of second)) (taken_of first) }
 {
     register.take(first);
     register.take(second);

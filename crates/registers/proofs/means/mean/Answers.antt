@@ -42,8 +42,8 @@ farther_is c =
     let sign : c.signum.result ≡ int_signum c.args.sum = simp to_z-of_z at c.signum.ensures.value in
     simp to_z-of_z (ap (λ z. z +ℤ c.signum.result) q ∙ ap (λ z. quot_z c.args.sum (pos c.args.version) +ℤ z) sign)
 
-pub overflow-add-result : goal.overflow-add-result
-overflow-add-result c =
+pub overflow_add-result : goal.overflow_add-result
+overflow_add-result c =
     let fs : SFits w64 c.args.sum = search rules in
     subst (SFits w64) (sym (farther_is c)) (farther_fits c.args.sum c.args.version fs (omega arith) (half_left c))
 
@@ -51,5 +51,5 @@ pub returns-else-abs-by : goal.returns-else-abs-by
 returns-else-abs-by c =
     let some : 0 < c.args.version = omega arith in
     let mean = farther_is c ∙ quotient_farther c.args.sum c.args.version some (half_left c) in
-    let found = answered c.args.sum c.args.version _ some (to_z-of_z w64 _ (overflow-add-result c) ∙ mean) in
+    let found = answered c.args.sum c.args.version _ some (to_z-of_z w64 _ (overflow_add-result c) ∙ mean) in
     record { value = found.0; nearest = found.1 }
