@@ -15,7 +15,7 @@ use refusals::Refusal;
 use registers::{Move, Register};
 
 fn nothing_yet<R: Register>() -> Batch<R>
-    ensures holds { Holds figures start rule result nothing_told }
+    ensures holds { Holds R.figures R.start R.rule result nothing_told }
     ensures few { AtMost 0 result.letters }
 {
     Batch {
@@ -30,7 +30,7 @@ fn nothing_yet<R: Register>() -> Batch<R>
 
 fn take_move<R: Register>(batch: &mut Batch<R>, hundredths: i32)
     requires { unsigned_abs hundredths ≤ 9000 }
-    ensures holds { (t : Told) → Holds figures start rule batch.old t → Holds figures start rule batch.new (with_entry t (move hundredths)) }
+    ensures holds { (t : Told) → Holds R.figures R.start R.rule batch.old t → Holds R.figures R.start R.rule batch.new (with_entry t (move hundredths)) }
     ensures few { batch.new.letters ≡ batch.old.letters }
 {
     if let Some(taken) = Move::new(hundredths) {
@@ -40,7 +40,7 @@ fn take_move<R: Register>(batch: &mut Batch<R>, hundredths: i32)
 
 fn count_step<R: Register>(batch: &mut Batch<R>, action: Action)
     requires { (k : ℕ) → slice_index batch.old.letters k < 65537 }
-    ensures holds { (t : Told) → (c : ℕ) → Holds figures start rule batch.old t → Holds figures start rule batch.new (with_entry t (step action c)) }
+    ensures holds { (t : Told) → (c : ℕ) → Holds R.figures R.start R.rule batch.old t → Holds R.figures R.start R.rule batch.new (with_entry t (step action c)) }
     ensures few { (n : ℕ) → AtMost n batch.old.letters → AtMost (n + 1) batch.new.letters }
 {
     let place = action.place();
@@ -50,7 +50,7 @@ fn count_step<R: Register>(batch: &mut Batch<R>, action: Action)
 fn note<R: Register>(batch: &mut Batch<R>, line: Line<'_>)
     requires sound { Sound line }
     requires few { AtMost 65536 batch.old.letters }
-    ensures holds { (t : Told) → Holds figures start rule batch.old t → Holds figures start rule batch.new (with_entry t (entry_of line.entry)) }
+    ensures holds { (t : Told) → Holds R.figures R.start R.rule batch.old t → Holds R.figures R.start R.rule batch.new (with_entry t (entry_of line.entry)) }
     ensures few { (n : ℕ) → AtMost n batch.old.letters → AtMost (n + 1) batch.new.letters }
 {
     match line {
@@ -73,7 +73,7 @@ fn note<R: Register>(batch: &mut Batch<R>, line: Line<'_>)
 
 // The batch that a journal tells of, with the moves in a register of the caller's choice.
 pub fn read_batch<R: Register>(journal: &[u8]) -> Result<Batch<R>, Refusal>
-    ensures { Reads figures start rule result (told_by journal.now) }
+    ensures { Reads R.figures R.start R.rule result (told_by journal.now) }
 {
     let mut reader = Reader::new(journal, Accepted::AnyNamed);
     let mut batch = nothing_yet();

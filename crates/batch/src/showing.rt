@@ -24,7 +24,7 @@ fn show_fault(refusal: Refusal, out: &mut [u8]) -> Result<Shown, Refusal>
 }
 
 fn show_totals<R: Register>(batch: &Batch<R>, out: &mut [u8]) -> Result<Shown, Refusal>
-    ensures { (t : Told) → Holds figures start rule batch.now t → Shows (text_with start rule) (Ok t) out.old result out.new }
+    ensures { (t : Told) → Holds R.figures R.start R.rule batch.now t → Shows (text_with R.start R.rule) (Ok t) out.old result out.new }
 {
     match totals_text(batch, out) {
         Ok(length) => Ok(Shown::Totals(length)),
@@ -34,7 +34,7 @@ fn show_totals<R: Register>(batch: &Batch<R>, out: &mut [u8]) -> Result<Shown, R
 
 // With the moves in a register of the caller's choice.
 fn show_with<R: Register>(journal: &[u8], out: &mut [u8]) -> Result<Shown, Refusal>
-    ensures { Shows (text_with start rule) (told_by journal.now) out.old result out.new }
+    ensures { Shows (text_with R.start R.rule) (told_by journal.now) out.old result out.new }
 {
     match read_batch::<R>(journal) {
         Ok(batch) => show_totals(&batch, out),

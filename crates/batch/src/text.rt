@@ -23,7 +23,7 @@ fn name(kind: u8) -> &'static [u8]
 
 fn mean_of<R: Register>(batch: &Batch<R>) -> Option<i64>
     ensures fits { IfSome result (λ z. mag z < 2 ^ 63) }
-    ensures value { result ≡ mean_of batch.now.kind (figures batch.now.register) batch.now.commands }
+    ensures value { result ≡ mean_of batch.now.kind (R.figures batch.now.register) batch.now.commands }
 {
     if batch.kind != 1 {
         return None;
@@ -59,8 +59,8 @@ fn write_letters(out: &mut [u8], at: usize, letters: &[u32; 18]) -> usize
 
 // All lines, each if it fits.
 fn write_totals<R: Register>(batch: &Batch<R>, out: &mut [u8]) -> usize
-    ensures short { length (totals_text batch.now.commands batch.now.kills batch.now.cards batch.now.kind (figures batch.now.register) batch.now.letters) < 2 ^ 64 }
-    ensures writes { Writes (totals_text batch.now.commands batch.now.kills batch.now.cards batch.now.kind (figures batch.now.register) batch.now.letters) out.old 0 out.new result }
+    ensures short { length (totals_text batch.now.commands batch.now.kills batch.now.cards batch.now.kind (R.figures batch.now.register) batch.now.letters) < 2 ^ 64 }
+    ensures writes { Writes (totals_text batch.now.commands batch.now.kills batch.now.cards batch.now.kind (R.figures batch.now.register) batch.now.letters) out.old 0 out.new result }
 {
     let after_commands = put_count_line(out, 0, b"commands", u64::from(batch.commands));
     let after_kills = put_count_line(out, after_commands, b"kills", u64::from(batch.kills));
@@ -73,7 +73,7 @@ fn write_totals<R: Register>(batch: &Batch<R>, out: &mut [u8]) -> usize
 
 // Prints the totals of a batch into a lent buffer.
 pub(crate) fn totals_text<R: Register>(batch: &Batch<R>, out: &mut [u8]) -> Result<usize, Refusal>
-    ensures { Printed (totals_text batch.now.commands batch.now.kills batch.now.cards batch.now.kind (figures batch.now.register) batch.now.letters) out.old result out.new }
+    ensures { Printed (totals_text batch.now.commands batch.now.kills batch.now.cards batch.now.kind (R.figures batch.now.register) batch.now.letters) out.old result out.new }
 {
     let needed = write_totals(batch, &mut []);
     if needed > out.len() {

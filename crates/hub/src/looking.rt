@@ -58,7 +58,7 @@ pub fn look<R: Register>(
     backups: &[Card<MasterNumber>],
     backup_registers: &[R],
 ) -> Result<Look, Refusal>
-    ensures { Looks start rule (size_of hub.now) (state_in figures hub.now (lent commands.now masters.now master_registers.now backups.now backup_registers.now)) result }
+    ensures { Looks R.start R.rule (size_of hub.now) (state_in R.figures hub.now (lent commands.now masters.now master_registers.now backups.now backup_registers.now)) result }
 {
     if !tables_fit(
         hub,

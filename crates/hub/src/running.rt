@@ -27,7 +27,7 @@ fn carry_out<R: Register>(
     call: Call,
 ) -> Answer
     ensures size { size_of hub.new ≡ size_of hub.old }
-    ensures goes_on { GoesOn start rule (size_of hub.old) (state_in figures hub.old (lent table.old masters.old master_registers.old backups.old backup_registers.old)) (call_of call) (reply_of result) (state_in figures hub.new (lent table.new masters.new master_registers.new backups.new backup_registers.new)) }
+    ensures goes_on { GoesOn R.start R.rule (size_of hub.old) (state_in R.figures hub.old (lent table.old masters.old master_registers.old backups.old backup_registers.old)) (call_of call) (reply_of result) (state_in R.figures hub.new (lent table.new masters.new master_registers.new backups.new backup_registers.new)) }
 {
     match call {
         Call::Step { letter, command } => match step(
@@ -70,7 +70,7 @@ fn carry_out_all<R: Register>(
 )
     requires { length answers.old ≡ length calls.now }
     ensures size { size_of hub.new ≡ size_of hub.old }
-    ensures carried { CarryOn start rule (size_of hub.old) (state_in figures hub.old (lent table.old masters.old master_registers.old backups.old backup_registers.old)) (map call_of calls.now) (map reply_of answers.new) (state_in figures hub.new (lent table.new masters.new master_registers.new backups.new backup_registers.new)) }
+    ensures carried { CarryOn R.start R.rule (size_of hub.old) (state_in R.figures hub.old (lent table.old masters.old master_registers.old backups.old backup_registers.old)) (map call_of calls.now) (map reply_of answers.new) (state_in R.figures hub.new (lent table.new masters.new master_registers.new backups.new backup_registers.new)) }
 {
     for (i, call) in calls.iter().enumerate() {
         answers[i] = carry_out(
@@ -101,7 +101,7 @@ pub fn run<R: Register>(
     calls: &[Call],
     answers: &mut [Answer],
 ) -> Result<Hub, Refusal>
-    ensures { Runs figures start rule (sized commands kills cards) moves.now calls.now (lent table.old masters.old master_registers.old backups.old backup_registers.old) answers.old result (lent table.new masters.new master_registers.new backups.new backup_registers.new) answers.new }
+    ensures { Runs R.figures R.start R.rule (sized commands kills cards) moves.now calls.now (lent table.old masters.old master_registers.old backups.old backup_registers.old) answers.old result (lent table.new masters.new master_registers.new backups.new backup_registers.new) answers.new }
 {
     if counts_fit(commands, kills, cards) && answers.len() != calls.len() {
         return Err(Refusal::WrongTableLength);

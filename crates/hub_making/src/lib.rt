@@ -113,7 +113,7 @@ fn set_cards<P: Copy>(cards: &mut [Card<P>], one: P, none: P)
 
 // Writes empty registers.
 fn set_registers<R: Register>(registers: &mut [R])
-    ensures { map figures registers.new ≡ replicate (length registers.old) start }
+    ensures { map R.figures registers.new ≡ replicate (length registers.old) R.start }
 {
     for register in registers.iter_mut() {
         *register = R::empty();
@@ -136,8 +136,8 @@ pub fn make<R: Register>(
     backups: &mut [Card<MasterNumber>],
     backup_registers: &mut [R],
 ) -> Result<Hub, Refusal>
-    ensures made { Makes figures start (sized commands kills cards) moves.now (lent table.old masters.old master_registers.old backups.old backup_registers.old) result (lent table.new masters.new master_registers.new backups.new backup_registers.new) }
-    ensures run { MakesRun figures start rule (sized commands kills cards) moves.now (lent table.old masters.old master_registers.old backups.old backup_registers.old) result (lent table.new masters.new master_registers.new backups.new backup_registers.new) }
+    ensures made { Makes R.figures R.start (sized commands kills cards) moves.now (lent table.old masters.old master_registers.old backups.old backup_registers.old) result (lent table.new masters.new master_registers.new backups.new backup_registers.new) }
+    ensures run { MakesRun R.figures R.start R.rule (sized commands kills cards) moves.now (lent table.old masters.old master_registers.old backups.old backup_registers.old) result (lent table.new masters.new master_registers.new backups.new backup_registers.new) }
 {
     let Some(hub) = new_hub(commands, kills, cards) else {
         return Err(Refusal::CountOutsideLimits);

@@ -12,7 +12,7 @@ use report::{put_line, put_signed_line};
 // What a register's first figure comes to over a version.
 fn mean_of_first<R: Register>(register: &R, version: u32) -> Option<i64>
     ensures fits { IfSome result (λ z. mag z < 2 ^ 63) }
-    ensures value { result ≡ mean_of_first (figures register.now) version }
+    ensures value { result ≡ mean_of_first (R.figures register.now) version }
 {
     match register.figure(0) {
         Some(sum) => mean(sum, version),
@@ -24,7 +24,7 @@ fn mean_of_first<R: Register>(register: &R, version: u32) -> Option<i64>
 pub(crate) fn mean_of<R: Register>(number: usize, version: u32, registers: &[R]) -> Option<i64>
     requires { number ≤ length registers.now }
     ensures fits { IfSome result (λ z. mag z < 2 ^ 63) }
-    ensures value { result ≡ mean_of code (at [] (map figures registers.now) number) version }
+    ensures value { result ≡ mean_of R.code (at [] (map R.figures registers.now) number) version }
 {
     if R::kind() != 1 {
         return None;

@@ -37,8 +37,8 @@ fn write_look<R: Register>(
 ) -> usize
     requires master { seen.now.master.0 ≤ length master_registers.now }
     requires backup { seen.now.backup.0 ≤ length backup_registers.now }
-    ensures short { length (look_text code seen.now (at [] (map figures master_registers.now) seen.now.master.0) (at [] (map figures backup_registers.now) seen.now.backup.0)) < 2 ^ 64 }
-    ensures writes { Writes (look_text code seen.now (at [] (map figures master_registers.now) seen.now.master.0) (at [] (map figures backup_registers.now) seen.now.backup.0)) out.old 0 out.new result }
+    ensures short { length (look_text R.code seen.now (at [] (map R.figures master_registers.now) seen.now.master.0) (at [] (map R.figures backup_registers.now) seen.now.backup.0)) < 2 ^ 64 }
+    ensures writes { Writes (look_text R.code seen.now (at [] (map R.figures master_registers.now) seen.now.master.0) (at [] (map R.figures backup_registers.now) seen.now.backup.0)) out.old 0 out.new result }
 {
     let after_state = put_line(out, 0, b"state", name(seen.state));
     let after_steps = put_count_line(out, after_state, b"steps", u64::from(seen.steps));
@@ -76,7 +76,7 @@ fn print_look<R: Register>(
 ) -> Result<usize, Refusal>
     requires master { seen.now.master.0 ≤ length master_registers.now }
     requires backup { seen.now.backup.0 ≤ length backup_registers.now }
-    ensures { Printed (look_text code seen.now (at [] (map figures master_registers.now) seen.now.master.0) (at [] (map figures backup_registers.now) seen.now.backup.0)) out.old result out.new }
+    ensures { Printed (look_text R.code seen.now (at [] (map R.figures master_registers.now) seen.now.master.0) (at [] (map R.figures backup_registers.now) seen.now.backup.0)) out.old result out.new }
 {
     let needed = write_look(seen, master_registers, backup_registers, &mut []);
     if needed > out.len() {
@@ -96,7 +96,7 @@ pub fn report_text<R: Register>(
     backup_registers: &[R],
     out: &mut [u8],
 ) -> Result<usize, Refusal>
-    ensures { Reports code (size_of hub.now) (state_in figures hub.now (lent commands.now masters.now master_registers.now backups.now backup_registers.now)) out.old result out.new }
+    ensures { Reports R.code (size_of hub.now) (state_in R.figures hub.now (lent commands.now masters.now master_registers.now backups.now backup_registers.now)) out.old result out.new }
 {
     match look(
         hub,

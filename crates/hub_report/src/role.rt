@@ -17,7 +17,7 @@ fn write_register<R: Register>(
     registers: &[R],
 ) -> usize
     requires { number ≤ length registers.now }
-    ensures { Writes (lineText key.now (register_text number (at [] (map figures registers.now) number))) out.old place out.new result }
+    ensures { Writes (lineText key.now (register_text number (at [] (map R.figures registers.now) number))) out.old place out.new result }
 {
     if number == 0 {
         put_line(out, place, key, b"none")
@@ -38,8 +38,8 @@ pub(crate) fn write_role<R: Register>(
     registers: &[R],
 ) -> usize
     requires { number ≤ length registers.now }
-    ensures short { length (role_text number_key.now version_key.now register_key.now number version (at [] (map figures registers.now) number)) ≤ length number_key.now + length version_key.now + length register_key.now + 21550 }
-    ensures writes { Writes (role_text number_key.now version_key.now register_key.now number version (at [] (map figures registers.now) number)) out.old place out.new result }
+    ensures short { length (role_text number_key.now version_key.now register_key.now number version (at [] (map R.figures registers.now) number)) ≤ length number_key.now + length version_key.now + length register_key.now + 21550 }
+    ensures writes { Writes (role_text number_key.now version_key.now register_key.now number version (at [] (map R.figures registers.now) number)) out.old place out.new result }
 {
     let after_number = put_count_line(out, place, number_key, number as u64);
     let after_version = put_count_line(out, after_number, version_key, u64::from(version));

@@ -7,7 +7,7 @@ use registers::Register;
 
 /// Judging a step is taking the module's action under the step's letter, with registers of any kind.
 pub fn steps_are_the_modules<R: Register>() -> u8
-    ensures { StepsAreTheModules rule }
+    ensures { StepsAreTheModules R.rule }
 {
     0
 }

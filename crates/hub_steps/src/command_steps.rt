@@ -112,7 +112,7 @@ fn count_command<P: Copy>(cards: &mut [Card<P>], number: usize, none: P)
 // The register of this number, if there is one, takes the move.
 fn take_move<R: Register>(registers: &mut [R], number: usize, hundredths: i32)
     requires { unsigned_abs hundredths ≤ 9000 }
-    ensures { map figures registers.new ≡ put (map figures registers.old) number (rule (at [] (map figures registers.old) number) hundredths) }
+    ensures { map R.figures registers.new ≡ put (map R.figures registers.old) number (R.rule (at [] (map R.figures registers.old) number) hundredths) }
 {
     if let Some(i) = index_of(number, registers.len()) {
         if let Some(taken) = Move::new(hundredths) {
@@ -150,7 +150,7 @@ fn apply<R: Register>(
     requires room { hub.old.steps < 4294967295 }
     requires versions { HasRoom masters.old backups.old }
     ensures size { size_of hub.new ≡ size_of hub.old }
-    ensures state { state_of hub.new commands.now masters.new backups.new (map figures master_registers.new) (map figures backup_registers.new) ≡ applied rule effect hundredths (state_of hub.old commands.now masters.old backups.old (map figures master_registers.old) (map figures backup_registers.old)) }
+    ensures state { state_of hub.new commands.now masters.new backups.new (map R.figures master_registers.new) (map R.figures backup_registers.new) ≡ applied R.rule effect hundredths (state_of hub.old commands.now masters.old backups.old (map R.figures master_registers.old) (map R.figures backup_registers.old)) }
 {
     hub.steps += 1;
     match effect {
@@ -189,7 +189,7 @@ pub(crate) fn step_command<R: Register>(
     requires room { hub.old.steps < 4294967295 }
     requires versions { HasRoom masters.old backups.old }
     ensures size { size_of hub.new ≡ size_of hub.old }
-    ensures answered { CommandSteps rule action command (state_of hub.old commands.old masters.old backups.old (map figures master_registers.old) (map figures backup_registers.old)) result (state_of hub.new commands.new masters.new backups.new (map figures master_registers.new) (map figures backup_registers.new)) }
+    ensures answered { CommandSteps R.rule action command (state_of hub.old commands.old masters.old backups.old (map R.figures master_registers.old) (map R.figures backup_registers.old)) result (state_of hub.new commands.new masters.new backups.new (map R.figures master_registers.new) (map R.figures backup_registers.new)) }
     ensures registers { Untouched result master_registers.old master_registers.new backup_registers.old backup_registers.new }
 {
     let index = command - 1;

@@ -60,9 +60,9 @@ fn create_backup<R: Register>(
     backups: &mut [Card<MasterNumber>],
     backup_registers: &mut [R],
 ) -> Result<(), Refusal>
-    requires fitting { Fitting (size_of hub.old) (state_of hub.old commands.old masters.old backups.old (map figures master_registers.old) (map figures backup_registers.old)) }
+    requires fitting { Fitting (size_of hub.old) (state_of hub.old commands.old masters.old backups.old (map R.figures master_registers.old) (map R.figures backup_registers.old)) }
     ensures size { size_of hub.new ≡ size_of hub.old }
-    ensures answered { (c m b : ℕ) → Replied (carried_out (size_of hub.old) rule CreatingNewBackup c m b (state_of hub.old commands.old masters.old backups.old (map figures master_registers.old) (map figures backup_registers.old))) (state_of hub.old commands.old masters.old backups.old (map figures master_registers.old) (map figures backup_registers.old)) result (state_of hub.new commands.new masters.new backups.new (map figures master_registers.new) (map figures backup_registers.new)) }
+    ensures answered { (c m b : ℕ) → Replied (carried_out (size_of hub.old) R.rule CreatingNewBackup c m b (state_of hub.old commands.old masters.old backups.old (map R.figures master_registers.old) (map R.figures backup_registers.old))) (state_of hub.old commands.old masters.old backups.old (map R.figures master_registers.old) (map R.figures backup_registers.old)) result (state_of hub.new commands.new masters.new backups.new (map R.figures master_registers.new) (map R.figures backup_registers.new)) }
     ensures registers { Untouched result master_registers.old master_registers.new backup_registers.old backup_registers.new }
 {
     match create::<MasterNumber, BackupNumber, R>(
@@ -89,9 +89,9 @@ fn create_master<R: Register>(
     backups: &mut [Card<MasterNumber>],
     backup_registers: &mut [R],
 ) -> Result<(), Refusal>
-    requires fitting { Fitting (size_of hub.old) (state_of hub.old commands.old masters.old backups.old (map figures master_registers.old) (map figures backup_registers.old)) }
+    requires fitting { Fitting (size_of hub.old) (state_of hub.old commands.old masters.old backups.old (map R.figures master_registers.old) (map R.figures backup_registers.old)) }
     ensures size { size_of hub.new ≡ size_of hub.old }
-    ensures answered { (c m b : ℕ) → Replied (carried_out (size_of hub.old) rule CreatingNewMaster c m b (state_of hub.old commands.old masters.old backups.old (map figures master_registers.old) (map figures backup_registers.old))) (state_of hub.old commands.old masters.old backups.old (map figures master_registers.old) (map figures backup_registers.old)) result (state_of hub.new commands.new masters.new backups.new (map figures master_registers.new) (map figures backup_registers.new)) }
+    ensures answered { (c m b : ℕ) → Replied (carried_out (size_of hub.old) R.rule CreatingNewMaster c m b (state_of hub.old commands.old masters.old backups.old (map R.figures master_registers.old) (map R.figures backup_registers.old))) (state_of hub.old commands.old masters.old backups.old (map R.figures master_registers.old) (map R.figures backup_registers.old)) result (state_of hub.new commands.new masters.new backups.new (map R.figures master_registers.new) (map R.figures backup_registers.new)) }
     ensures registers { Untouched result master_registers.old master_registers.new backup_registers.old backup_registers.new }
 {
     match create::<BackupNumber, MasterNumber, R>(
@@ -118,10 +118,10 @@ fn kill_master<R: Register>(
     backups: &mut [Card<MasterNumber>],
     backup_registers: &mut [R],
 ) -> Result<(), Refusal>
-    requires fitting { Fitting (size_of hub.old) (state_of hub.old commands.old masters.old backups.old (map figures master_registers.old) (map figures backup_registers.old)) }
+    requires fitting { Fitting (size_of hub.old) (state_of hub.old commands.old masters.old backups.old (map R.figures master_registers.old) (map R.figures backup_registers.old)) }
     requires room { hub.old.losses < hub.old.kills }
     ensures size { size_of hub.new ≡ size_of hub.old }
-    ensures answered { (c m b : ℕ) → Replied (carried_out (size_of hub.old) rule KillingMaster c m b (state_of hub.old commands.old masters.old backups.old (map figures master_registers.old) (map figures backup_registers.old))) (state_of hub.old commands.old masters.old backups.old (map figures master_registers.old) (map figures backup_registers.old)) result (state_of hub.new commands.new masters.new backups.new (map figures master_registers.new) (map figures backup_registers.new)) }
+    ensures answered { (c m b : ℕ) → Replied (carried_out (size_of hub.old) R.rule KillingMaster c m b (state_of hub.old commands.old masters.old backups.old (map R.figures master_registers.old) (map R.figures backup_registers.old))) (state_of hub.old commands.old masters.old backups.old (map R.figures master_registers.old) (map R.figures backup_registers.old)) result (state_of hub.new commands.new masters.new backups.new (map R.figures master_registers.new) (map R.figures backup_registers.new)) }
     ensures registers { Untouched result master_registers.old master_registers.new backup_registers.old backup_registers.new }
 {
     match lose::<MasterNumber>(masters) {
@@ -143,10 +143,10 @@ fn kill_backup<R: Register>(
     backups: &mut [Card<MasterNumber>],
     backup_registers: &mut [R],
 ) -> Result<(), Refusal>
-    requires fitting { Fitting (size_of hub.old) (state_of hub.old commands.old masters.old backups.old (map figures master_registers.old) (map figures backup_registers.old)) }
+    requires fitting { Fitting (size_of hub.old) (state_of hub.old commands.old masters.old backups.old (map R.figures master_registers.old) (map R.figures backup_registers.old)) }
     requires room { hub.old.losses < hub.old.kills }
     ensures size { size_of hub.new ≡ size_of hub.old }
-    ensures answered { (c m b : ℕ) → Replied (carried_out (size_of hub.old) rule KillingBackup c m b (state_of hub.old commands.old masters.old backups.old (map figures master_registers.old) (map figures backup_registers.old))) (state_of hub.old commands.old masters.old backups.old (map figures master_registers.old) (map figures backup_registers.old)) result (state_of hub.new commands.new masters.new backups.new (map figures master_registers.new) (map figures backup_registers.new)) }
+    ensures answered { (c m b : ℕ) → Replied (carried_out (size_of hub.old) R.rule KillingBackup c m b (state_of hub.old commands.old masters.old backups.old (map R.figures master_registers.old) (map R.figures backup_registers.old))) (state_of hub.old commands.old masters.old backups.old (map R.figures master_registers.old) (map R.figures backup_registers.old)) result (state_of hub.new commands.new masters.new backups.new (map R.figures master_registers.new) (map R.figures backup_registers.new)) }
     ensures registers { Untouched result master_registers.old master_registers.new backup_registers.old backup_registers.new }
 {
     match lose::<BackupNumber>(backups) {
@@ -170,9 +170,9 @@ fn step_under<R: Register>(
     action: Action,
     command: usize,
 ) -> Result<(), Refusal>
-    requires fitting { Fitting (size_of hub.old) (state_of hub.old commands.old masters.old backups.old (map figures master_registers.old) (map figures backup_registers.old)) }
+    requires fitting { Fitting (size_of hub.old) (state_of hub.old commands.old masters.old backups.old (map R.figures master_registers.old) (map R.figures backup_registers.old)) }
     ensures size { size_of hub.new ≡ size_of hub.old }
-    ensures answered { Replied (judged (size_of hub.old) rule action command (state_of hub.old commands.old masters.old backups.old (map figures master_registers.old) (map figures backup_registers.old))) (state_of hub.old commands.old masters.old backups.old (map figures master_registers.old) (map figures backup_registers.old)) result (state_of hub.new commands.new masters.new backups.new (map figures master_registers.new) (map figures backup_registers.new)) }
+    ensures answered { Replied (judged (size_of hub.old) R.rule action command (state_of hub.old commands.old masters.old backups.old (map R.figures master_registers.old) (map R.figures backup_registers.old))) (state_of hub.old commands.old masters.old backups.old (map R.figures master_registers.old) (map R.figures backup_registers.old)) result (state_of hub.new commands.new masters.new backups.new (map R.figures master_registers.new) (map R.figures backup_registers.new)) }
     ensures registers { Untouched result master_registers.old master_registers.new backup_registers.old backup_registers.new }
 {
     if !is_numbered(*hub, action, command) {
@@ -239,7 +239,7 @@ fn answer_step<R: Register>(
     command: usize,
 ) -> Result<(), Refusal>
     ensures size { size_of hub.new ≡ size_of hub.old }
-    ensures answered { Replied (step_answer (size_of hub.old) rule letter command (state_of hub.old commands.old masters.old backups.old (map figures master_registers.old) (map figures backup_registers.old))) (state_of hub.old commands.old masters.old backups.old (map figures master_registers.old) (map figures backup_registers.old)) result (state_of hub.new commands.new masters.new backups.new (map figures master_registers.new) (map figures backup_registers.new)) }
+    ensures answered { Replied (step_answer (size_of hub.old) R.rule letter command (state_of hub.old commands.old masters.old backups.old (map R.figures master_registers.old) (map R.figures backup_registers.old))) (state_of hub.old commands.old masters.old backups.old (map R.figures master_registers.old) (map R.figures backup_registers.old)) result (state_of hub.new commands.new masters.new backups.new (map R.figures master_registers.new) (map R.figures backup_registers.new)) }
     ensures registers { Untouched result master_registers.old master_registers.new backup_registers.old backup_registers.new }
 {
     if !tables_fit(
@@ -285,8 +285,8 @@ pub fn step<R: Register>(
     command: usize,
 ) -> Result<(), Refusal>
     ensures size { size_of hub.new ≡ size_of hub.old }
-    ensures answered { Answered (step_answer (size_of hub.old) rule letter command (state_of hub.old commands.old masters.old backups.old (map figures master_registers.old) (map figures backup_registers.old))) (state_of hub.old commands.old masters.old backups.old (map figures master_registers.old) (map figures backup_registers.old)) result (state_of hub.new commands.new masters.new backups.new (map figures master_registers.new) (map figures backup_registers.new)) }
-    ensures steps { Steps start rule (size_of hub.old) letter command (state_in figures hub.old (lent commands.old masters.old master_registers.old backups.old backup_registers.old)) (step_reply result) (state_in figures hub.new (lent commands.new masters.new master_registers.new backups.new backup_registers.new)) }
+    ensures answered { Answered (step_answer (size_of hub.old) R.rule letter command (state_of hub.old commands.old masters.old backups.old (map R.figures master_registers.old) (map R.figures backup_registers.old))) (state_of hub.old commands.old masters.old backups.old (map R.figures master_registers.old) (map R.figures backup_registers.old)) result (state_of hub.new commands.new masters.new backups.new (map R.figures master_registers.new) (map R.figures backup_registers.new)) }
+    ensures steps { Steps R.start R.rule (size_of hub.old) letter command (state_in R.figures hub.old (lent commands.old masters.old master_registers.old backups.old backup_registers.old)) (step_reply result) (state_in R.figures hub.new (lent commands.new masters.new master_registers.new backups.new backup_registers.new)) }
     ensures registers { Untouched result master_registers.old master_registers.new backup_registers.old backup_registers.new }
 {
     answer_step(

@@ -75,7 +75,7 @@ impl Header {
 pub(crate) fn read_header<R: Register>(reader: &mut Reader<'_>) -> Result<Header, Refusal>
     requires place { reader.old.place ≡ record { at = 0; line = 1 } }
     requires commands { reader.old.commands ≡ 0 }
-    ensures read { HeadRead reader.old.accepts start rule reader.old.text.now result reader.new.place reader.new.commands }
+    ensures read { HeadRead reader.old.accepts R.start R.rule reader.old.text.now result reader.new.place reader.new.commands }
     ensures same { (reader.new.text ≡ reader.old.text) × (reader.new.accepts ≡ reader.old.accepts) }
 {
     let mut header = Header::new();

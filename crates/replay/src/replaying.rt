@@ -42,7 +42,7 @@ fn replay_made<R: Register>(
     reader: &mut Reader<'_>,
 ) -> Result<Hub, Refusal>
     requires { header.now.commands ≤ 64 }
-    ensures { (t : Told) → Heads header.now t → is_made t ≡ true → Fitted (lent table.old masters.old master_registers.old backups.old backup_registers.old) t → reader.old.commands ≡ t.commands → Played figures start rule reader.old.accepts reader.old.text.now reader.old.place t result (lent table.new masters.new master_registers.new backups.new backup_registers.new) }
+    ensures { (t : Told) → Heads header.now t → is_made t ≡ true → Fitted (lent table.old masters.old master_registers.old backups.old backup_registers.old) t → reader.old.commands ≡ t.commands → Played R.figures R.start R.rule reader.old.accepts reader.old.text.now reader.old.place t result (lent table.new masters.new master_registers.new backups.new backup_registers.new) }
 {
     let count = header.commands as usize;
     match make(
@@ -87,7 +87,7 @@ pub fn replay<R: Register>(
     backups: &mut [Card<MasterNumber>],
     backup_registers: &mut [R],
 ) -> Result<Hub, Refusal>
-    ensures { Replays figures start rule code journal.now (lent table.old masters.old master_registers.old backups.old backup_registers.old) result (lent table.new masters.new master_registers.new backups.new backup_registers.new) }
+    ensures { Replays R.figures R.start R.rule R.code journal.now (lent table.old masters.old master_registers.old backups.old backup_registers.old) result (lent table.new masters.new master_registers.new backups.new backup_registers.new) }
 {
     if !are_full(
         table.len(),

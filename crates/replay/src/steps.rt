@@ -25,7 +25,7 @@ fn note_step<R: Register>(
     line: Line<'_>,
     at: u32,
 ) -> Result<(), Refusal>
-    ensures { (t : Told) → Stands figures start rule hub.old (lent table.old masters.old master_registers.old backups.old backup_registers.old) t → StepNoted (step_noted start rule at t (entry_of line.entry)) result (Stands figures start rule hub.new (lent table.new masters.new master_registers.new backups.new backup_registers.new)) t }
+    ensures { (t : Told) → Stands R.figures R.start R.rule hub.old (lent table.old masters.old master_registers.old backups.old backup_registers.old) t → StepNoted (step_noted R.start R.rule at t (entry_of line.entry)) result (Stands R.figures R.start R.rule hub.new (lent table.new masters.new master_registers.new backups.new backup_registers.new)) t }
 {
     match line {
         Line::Step {
@@ -60,7 +60,7 @@ pub(crate) fn replay_steps<R: Register>(
     backup_registers: &mut [R],
     reader: &mut Reader<'_>,
 ) -> Result<(), Refusal>
-    ensures { (t : Told) → Stands figures start rule hub.old (lent table.old masters.old master_registers.old backups.old backup_registers.old) t → reader.old.commands ≡ t.commands → StepsRead reader.old.accepts start rule reader.old.text.now reader.old.place t result (Stands figures start rule hub.new (lent table.new masters.new master_registers.new backups.new backup_registers.new)) }
+    ensures { (t : Told) → Stands R.figures R.start R.rule hub.old (lent table.old masters.old master_registers.old backups.old backup_registers.old) t → reader.old.commands ≡ t.commands → StepsRead reader.old.accepts R.start R.rule reader.old.text.now reader.old.place t result (Stands R.figures R.start R.rule hub.new (lent table.new masters.new master_registers.new backups.new backup_registers.new)) }
 {
     loop {
         let at = reader.place().line;

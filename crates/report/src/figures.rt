@@ -22,7 +22,7 @@ fn write_figure(out: &mut [u8], at: usize, place: usize, z: i64) -> usize
 
 // Writes the figures of a register one after the other, each if it fits.
 fn write_figures<R: Register>(out: &mut [u8], at: usize, register: &R) -> usize
-    ensures { Writes (figuresText (figures register.now)) out.old at out.new result }
+    ensures { Writes (figuresText (R.figures register.now)) out.old at out.new result }
 {
     let mut next = at;
     for place in 0..register.count() {
@@ -35,7 +35,7 @@ fn write_figures<R: Register>(out: &mut [u8], at: usize, register: &R) -> usize
 
 // Writes the four parts of the line, each if it fits.
 fn write_figures_line<R: Register>(out: &mut [u8], at: usize, key: &[u8], register: &R) -> usize
-    ensures { Writes (lineText key.now (figuresText (figures register.now))) out.old at out.new result }
+    ensures { Writes (lineText key.now (figuresText (R.figures register.now))) out.old at out.new result }
 {
     let after_key = put(out, at, key);
     let after_sign = put(out, after_key, b"=");
@@ -45,7 +45,7 @@ fn write_figures_line<R: Register>(out: &mut [u8], at: usize, key: &[u8], regist
 
 // Writes the line of `key` and the figures of `register` from the place `at` on.
 pub fn put_figures_line<R: Register>(out: &mut [u8], at: usize, key: &[u8], register: &R) -> usize
-    ensures { Puts (lineText key.now (figuresText (figures register.now))) out.old at out.new result }
+    ensures { Puts (lineText key.now (figuresText (R.figures register.now))) out.old at out.new result }
 {
     let end = write_figures_line(&mut [], at, key, register);
     if end <= out.len() {

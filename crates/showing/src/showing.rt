@@ -42,7 +42,7 @@ fn show_report<R: Register>(
     requires commands { length table.now ≡ 64 }
     requires masters { (length masters.now ≡ 8) × (length master_registers.now ≡ 8) }
     requires backups { (length backups.now ≡ 8) × (length backup_registers.now ≡ 8) }
-    ensures { (told : Told) → Stands figures start rule hub.now (front told (lent table.now masters.now master_registers.now backups.now backup_registers.now)) told → Shows (report_text code (state_told start rule told)) 1 out.old result out.new }
+    ensures { (told : Told) → Stands R.figures R.start R.rule hub.now (front told (lent table.now masters.now master_registers.now backups.now backup_registers.now)) told → Shows (report_text R.code (state_told R.start R.rule told)) 1 out.old result out.new }
 {
     let commands = hub.commands as usize;
     let cards = hub.cards as usize;
@@ -101,7 +101,7 @@ fn show_with<R: Register>(
     requires commands { length table.old ≡ 64 }
     requires masters { (length masters.old ≡ 8) × (length master_registers.old ≡ 8) }
     requires backups { (length backups.old ≡ 8) × (length backup_registers.old ≡ 8) }
-    ensures { Tried (names_another (replay_of (Only code) start rule journal.now).ending) (text_due code start rule (replay_of (Only code) start rule journal.now)) (number_due (replay_of (Only code) start rule journal.now).ending) out.old result out.new }
+    ensures { Tried (names_another (replay_of (Only R.code) R.start R.rule journal.now).ending) (text_due R.code R.start R.rule (replay_of (Only R.code) R.start R.rule journal.now)) (number_due (replay_of (Only R.code) R.start R.rule journal.now).ending) out.old result out.new }
 {
     match replay(
         journal,
