@@ -8,14 +8,14 @@ pub loop-i-preserved : goal.loop-i-preserved
 loop-i-preserved c =
     let fits : SFits w32 (get_or c.args.moves.now c.loop-i.i (pos 0)) = search rules in
     c.loop-i.invariant
-    ∙ outside_on c.args.moves.now c.loop-i.i (pos 0) c.unsigned-abs.result c.loop-i-test.true (c.unsigned-abs.ensures.value ∙ ap nat_abs (to_z-of_z w32 _ fits)) c.if-unsigned-abs-gt-LIMIT.false
+    ∙ outside_on c.args.moves.now c.loop-i.i (pos 0) c.unsigned_abs.result c.loop-i-test.true (c.unsigned_abs.ensures.value ∙ ap nat_abs (to_z-of_z w32 _ fits)) c.if-unsigned_abs-gt-LIMIT.false
 
-pub returns-then-unsigned-abs-gt-LIMIT : goal.returns-then-unsigned-abs-gt-LIMIT
-returns-then-unsigned-abs-gt-LIMIT c =
+pub returns-then-unsigned_abs-gt-LIMIT : goal.returns-then-unsigned_abs-gt-LIMIT
+returns-then-unsigned_abs-gt-LIMIT c =
     let fits : SFits w32 (get_or c.args.moves.now c.loop-i.i (pos 0)) = search rules in
     sym
     (c.loop-i.invariant
-    ∙ outside_here c.args.moves.now c.loop-i.i (pos 0) c.unsigned-abs.result c.loop-i-test.true (c.unsigned-abs.ensures.value ∙ ap nat_abs (to_z-of_z w32 _ fits)) c.if-unsigned-abs-gt-LIMIT.true)
+    ∙ outside_here c.args.moves.now c.loop-i.i (pos 0) c.unsigned_abs.result c.loop-i-test.true (c.unsigned_abs.ensures.value ∙ ap nat_abs (to_z-of_z w32 _ fits)) c.if-unsigned_abs-gt-LIMIT.true)
 
 pub returns : goal.returns
 returns c = sym (c.loop-i.invariant ∙ outside_end c.args.moves.now c.loop-i.i c.loop-i-test.false)

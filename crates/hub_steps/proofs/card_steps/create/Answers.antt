@@ -7,5 +7,5 @@ use Rattle.hub_steps.proofs.card_steps.create.Goals as goal
 pub returns : goal.returns
 returns g c =
     let figures = g.R.Register.figures in
-    let found = c.in-ok-maker.ensures.within in
-    record { created = card_created g.M.CardNumber.plain g.N.CardNumber.plain (map figures c.args.maker-registers.now) (chosen c.args.places c.args.makers.now c.args.made.now) c.in-ok-maker.maker c.in-ok-maker.new c.number-from.result c.number-to.result c.card-at-card.result (c.args.makers.now, c.args.made.now, map figures c.args.made-registers.now) c.put-card.new.cards c.put-card-2.new.cards (map figures c.copy-register.new.to) c.in-ok-maker.ensures.answered c.number-from.ensures c.number-to.ensures (omega arith) (omega arith) c.card-at-card.ensures c.put-card.ensures c.put-card-2.ensures c.copy-register.ensures; registers = tt }
+    let found = c.in_ok-maker.ensures.within in
+    record { created = card_created g.M.CardNumber.plain g.N.CardNumber.plain (map figures c.args.maker_registers.now) (chosen c.args.places c.args.makers.now c.args.made.now) c.in_ok-maker.maker c.in_ok-maker.new c.number-from.result c.number-to.result c.card_at-card.result (c.args.makers.now, c.args.made.now, map figures c.args.made_registers.now) c.put_card.new.cards c.put_card-2.new.cards (map figures c.copy_register.new.to) c.in_ok-maker.ensures.answered c.number-from.ensures c.number-to.ensures (omega arith) (omega arith) c.card_at-card.ensures c.put_card.ensures c.put_card-2.ensures c.copy_register.ensures; registers = tt }

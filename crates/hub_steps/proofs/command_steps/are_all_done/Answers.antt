@@ -5,17 +5,17 @@ use Rattle.hub_records.specs.Commands.{is_done}
 use Rattle.hub_runs.specs.Hubs.{all_done, blank_client}
 use Rattle.hub_steps.proofs.command_steps.are_all_done.Goals as goal
 
-pub returns-then-not-is-done : goal.returns-then-not-is-done
+pub returns-then-not-is_done : goal.returns-then-not-is_done
 unfolding all_done
-returns-then-not-is-done c =
+returns-then-not-is_done c =
     sym (c.loop-command.invariant ∙ at_drop_more all_done c.args.commands.now c.loop-command.command-index blank_client c.loop-command-test.true
-    ∙ and_left _ _ (sym c.is_done.ensures ∙ c.if-not-is-done.true))
+    ∙ and_left _ _ (sym c.is_done.ensures ∙ c.if-not-is_done.true))
 
 pub loop-command-preserved : goal.loop-command-preserved
 unfolding all_done
 loop-command-preserved c =
     c.loop-command.invariant ∙ at_drop_more all_done c.args.commands.now c.loop-command.command-index blank_client c.loop-command-test.true
-    ∙ ap (λ done. done && all_done (drop (c.loop-command.command-index + 1) c.args.commands.now)) (sym c.is_done.ensures ∙ c.if-not-is-done.false)
+    ∙ ap (λ done. done && all_done (drop (c.loop-command.command-index + 1) c.args.commands.now)) (sym c.is_done.ensures ∙ c.if-not-is_done.false)
 
 pub returns : goal.returns
 unfolding all_done

@@ -19,8 +19,8 @@ returns-in-Some-new g c =
     c.take.ensures ∙ ap (λ f. kind.rule f c.in-Some-new.taken.hundredths) was ∙ ap (kind.rule (at [] (map kind.figures regs) c.args.number)) same in
     map-set kind.figures regs i c.take.new.self ∙ ap (set (map kind.figures regs) i) new ∙ sym (put_index (map kind.figures regs) c.args.number i _ place.0)
 
-pub returns-in-default : goal.returns-in-default
-returns-in-default g c =
-    let out = c.in-default.ensures in
+pub returns-in_default : goal.returns-in_default
+returns-in_default g c =
+    let out = c.in_default.ensures in
     let same = length-map c.args.registers.now g.R.Register.figures in
     put_no_place _ c.args.number _ (⊎_elim inl (λ past. inr (omega arith)) out)
