@@ -66,14 +66,9 @@ module _ {R : Type 0} (figures : R → List ℤ) (start : List ℤ) (rule : Rule
   makes new lengths inside all =
       subst (λ (o : Option Refusal). Follows o (BeginsRun figures start rule size moves) before (Ok hub) after) (sym (no_cause size moves before new.fits lengths inside)) (begins new lengths inside all)
 
--- Where a run begins, the tables are as a run begins.
-pub as_made : {R : Type 0} (figures : R → List ℤ) (start : List ℤ) (rule : Rule) (size : Size) (moves : List ℤ) (before after : Lent R) (r : Result Hub Refusal) → MakesRun figures start rule size moves before r after → Makes figures start size moves before r after
-as_made figures start rule size moves before after r makes = by_cause (cause size moves before) makes
-  where
-    by_result : (x : Result Hub Refusal) → Follows None (BeginsRun figures start rule size moves) before x after → Follows None (Begins figures start size moves) before x after
-    by_result (Ok hub) begun = record { its_size = begun.its_size; its_state = begun.its_state; its_limits = begun.its_run.limits }
-    by_result (Err refusal) never = never
-
-    by_cause : (o : Option Refusal) → Follows o (BeginsRun figures start rule size moves) before r after → Follows o (Begins figures start size moves) before r after
-    by_cause None follows = by_result r follows
-    by_cause (Some refusal) follows = follows
+  -- The same without the run that begins.
+  pub made_so : NewHub size hub → all_lengths_fit size moves before ≡ true → first_outside 1 moves ≡ None → AllSet figures start moves before after → Makes figures start size moves before (Ok hub) after
+  made_so new lengths inside all =
+      let begun = begins new lengths inside all in
+      let plain : Begins figures start size moves after hub = record { its_size = begun.its_size; its_state = begun.its_state; its_limits = begun.its_run.limits } in
+      subst (λ (o : Option Refusal). Follows o (Begins figures start size moves) before (Ok hub) after) (sym (no_cause size moves before new.fits lengths inside)) plain
