@@ -3,7 +3,9 @@
 
 mod calls;
 mod looking;
+pub mod making;
 mod running;
+pub mod stepping;
 
 pub use calls::{Answer, Call};
 pub use hub_making::make;

@@ -6,7 +6,7 @@ use Rattle.hub_records.specs.Commands.{is_done}
 use Rattle.hub_runs.specs.Hubs.{blank_client}
 use Rattle.hub_runs.specs.Runs.{count_done}
 use Rattle.hub.proofs.looking.count_done.Goals as goal
-use Rattle.hub.proofs.looking.count_done.Goals.{then-is-done, else-is-done}
+use Rattle.hub.proofs.looking.count_done.Goals.{then-is_done, else-is_done}
 
 pub loop-command-preserved : goal.loop-command-preserved
 unfolding count_done
@@ -15,9 +15,9 @@ loop-command-preserved c =
     let i = c.loop-command.command-index in
     let step : count_done (drop i xs) ≡ cond (is_done (get_or xs i blank_client).phase) 1 0 + count_done (drop (i + 1) xs) = at_drop_more count_done xs i blank_client c.loop-command-test.true in
     let here = is_done (get_or xs i blank_client).phase in
-    elim c.if-is-done.branch [
-      | then-is-done w ↦ (let one : ◌≡◌ {A = ℕ} (cond here 1 0) 1 = cond-true here 1 0 (sym c.is_done.ensures ∙ w.if-is-done.true) in (omega (arith, w.done-is), omega (arith, w.done-is)))
-      | else-is-done w ↦ (let none : ◌≡◌ {A = ℕ} (cond here 1 0) 0 = cond-false here 1 0 (sym c.is_done.ensures ∙ w.if-is-done.false) in (omega (arith, w.done-is), omega (arith, w.done-is)))
+    elim c.if-is_done.branch [
+      | then-is_done w ↦ (let one : ◌≡◌ {A = ℕ} (cond here 1 0) 1 = cond-true here 1 0 (sym c.is_done.ensures ∙ w.if-is_done.true) in (omega (arith, w.done-is), omega (arith, w.done-is)))
+      | else-is_done w ↦ (let none : ◌≡◌ {A = ℕ} (cond here 1 0) 0 = cond-false here 1 0 (sym c.is_done.ensures ∙ w.if-is_done.false) in (omega (arith, w.done-is), omega (arith, w.done-is)))
     ]
 
 pub returns : goal.returns

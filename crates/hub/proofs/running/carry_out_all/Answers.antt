@@ -12,8 +12,8 @@ loop-i-init g c = (refl, carries_none g.R.Register.start g.R.Register.rule (size
 pub loop-i-preserved : goal.loop-i-preserved
 loop-i-preserved g c =
     let inv = c.loop-i.invariant in (
-      c.carry-out.ensures.size ∙ inv.0,
-      turn g.R.Register.start g.R.Register.rule (size_of c.args.hub.now) (size_of c.loop-i.hub) _ _ _ c.args.calls.now c.loop-i.answers c.loop-i.i _ c.carry-out.result inv.0 c.loop-i-test.true (omega arith) inv.1 c.carry-out.ensures.goes_on,
+      c.carry_out.ensures.size ∙ inv.0,
+      turn g.R.Register.start g.R.Register.rule (size_of c.args.hub.now) (size_of c.loop-i.hub) _ _ _ c.args.calls.now c.loop-i.answers c.loop-i.i _ c.carry_out.result inv.0 c.loop-i-test.true (omega arith) inv.1 c.carry_out.ensures.goes_on,
     )
 
 pub returns : goal.returns
