@@ -23,6 +23,10 @@ MORE = set("""at-end below-zero first-none fresh-rows some-none step-at b-is bv-
 is-from is-to low-from low-to made-written maker-figures maker-written no-backup no-master search-of within-xs within-ys""".split())
 
 
+# in camel case until now; the Rust functions `fault_text` and `mean_of` and a local `after_comma` have the plain spellings
+CAMEL = {"lineText": "line_text", "figuresText": "figures_text", "faultText": "text_of_fault", "afterComma": "figure_after_comma", "meanOf": "mean_of_sum"}
+
+
 def texts(root):
     for folder, dirs, files in os.walk(os.path.join(root, "crates")):
         dirs[:] = sorted(d for d in dirs if d not in ("out", "data"))
@@ -95,6 +99,7 @@ def main(argv):
         keep = KEEP_RT if p.endswith(".rt") else KEEP_ANTT
 
         def change(part):
+            part = re.sub(r"\b(%s)\b" % "|".join(CAMEL), lambda m: CAMEL[m.group(1)], part)
             return ANY.sub(lambda m: rename.get(m.group(1), m.group(1)), part)
 
         if p.endswith(".edit"):

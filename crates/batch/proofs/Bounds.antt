@@ -4,7 +4,7 @@ use lib.Signed.{mag}
 use Rattle.std.specs.List.{AllByRecursion as All}
 use Rattle.std.proofs.lemmas.Bool.{cond_both}
 use Rattle.registers.specs.Kind.{Fits64}
-use Rattle.report.specs.Figures.{figuresText}
+use Rattle.report.specs.Figures.{figures_text}
 use Rattle.report.proofs.Bounds.{length_number, length_signed, length_figures}
 use Rattle.batch.specs.Totals.{name_of, mean_of, mean_text, letters_text, totals_text}
 
@@ -31,6 +31,6 @@ totals_short commands kills cards kind figures letters n k s fit few mean last =
     let second : length (decimal kills) ≤ 20 = length_number kills k in
     let third : length (decimal cards) ≤ 20 = length_number cards s in
     let name : length (name_of kind) ≤ 7 = name_short kind in
-    let shown : length (figuresText figures) ≤ 21 * length figures = length_figures figures fit in
+    let shown : length (figures_text figures) ≤ 21 * length figures = length_figures figures fit in
     let average : length (mean_text (mean_of kind figures commands)) ≤ 20 = mean_short (mean_of kind figures commands) mean in
     simp length-append (omega arith)

@@ -1,7 +1,7 @@
 -- What is shown of a journal: its totals, or the fault for which it is refused.
 use Rattle.std.specs.Prelude.{◌≡◌, ℕ, List, length, Ok, Err, Result}
 use Rattle.refusals.specs.declared.Refusal.{Refusal}
-use Rattle.report.specs.Fault.{faultText}
+use Rattle.report.specs.Fault.{text_of_fault}
 use Rattle.report.specs.Printed.{Printed}
 use Rattle.batch.specs.Told.{Told}
 use Rattle.batch.specs.declared.shown.Shown.{Shown}
@@ -23,7 +23,7 @@ number_due (Err refusal) = 2
 
 abbrev pub text_due : (Told → List ℕ) → Result Told Refusal → List ℕ
 text_due totals (Ok told) = totals told
-text_due totals (Err refusal) = faultText refusal
+text_due totals (Err refusal) = text_of_fault refusal
 
 abbrev pub written : Result Shown Refusal → Result ℕ Refusal
 written (Ok shown) = Ok (length_in shown)

@@ -3,11 +3,11 @@ use Rattle.std.specs.Prelude.{ℕ, suc, cond, List, [], ◌∷◌, ◌++◌, ℤ
 use Rattle.std.specs.Fmt.{signed_decimal}
 use Rattle.registers.specs.Kind.{Kind, Rule}
 use Rattle.registers.specs.Classes.{the_classes}
-use Rattle.registers.specs.Mean.{meanOf}
+use Rattle.registers.specs.Mean.{mean_of_sum}
 use Rattle.registers.specs.Peak.{the_peak}
 use Rattle.registers.specs.Sum.{the_sum}
-use Rattle.report.specs.Figures.{figuresText}
-use Rattle.report.specs.Lines.{lineText}
+use Rattle.report.specs.Figures.{figures_text}
+use Rattle.report.specs.Lines.{line_text}
 use Rattle.batch.specs.Told.{Told}
 
 -- The kinds of register by their numbers, and their names.
@@ -23,7 +23,7 @@ name_of kind = by_kind kind (codes "sum") (codes "classes") (codes "peak")
 -- Of the sum there is a mean: over the number of commands, since each command counts once.
 abbrev pub mean_of_first : List ℤ → ℕ → Option ℤ
 mean_of_first [] commands = None
-mean_of_first (sum ∷ rest) commands = meanOf sum commands
+mean_of_first (sum ∷ rest) commands = mean_of_sum sum commands
 
 abbrev pub mean_of : ℕ → List ℤ → ℕ → Option ℤ
 mean_of kind figures commands = by_kind kind (mean_of_first figures commands) None None
@@ -35,16 +35,16 @@ mean_text (Some z) = signed_decimal z
 -- A line for each letter, from this one on, with how many steps stand under it.
 abbrev pub letters_text : ℕ → List ℕ → List ℕ
 letters_text letter [] = []
-letters_text letter (n ∷ ns) = lineText (letter ∷ []) (decimal n) ++ letters_text (suc letter) ns
+letters_text letter (n ∷ ns) = line_text (letter ∷ []) (decimal n) ++ letters_text (suc letter) ns
 
 unfoldable pub totals_text : (commands kills cards kind : ℕ) → (figures : List ℤ) → (letters : List ℕ) → List ℕ
 totals_text commands kills cards kind figures letters =
-    lineText (codes "commands") (decimal commands)
-    ++ (lineText (codes "kills") (decimal kills)
-    ++ (lineText (codes "cards") (decimal cards)
-    ++ (lineText (codes "register") (name_of kind)
-    ++ (lineText (codes "figures") (figuresText figures)
-    ++ (lineText (codes "mean") (mean_text (mean_of kind figures commands))
+    line_text (codes "commands") (decimal commands)
+    ++ (line_text (codes "kills") (decimal kills)
+    ++ (line_text (codes "cards") (decimal cards)
+    ++ (line_text (codes "register") (name_of kind)
+    ++ (line_text (codes "figures") (figures_text figures)
+    ++ (line_text (codes "mean") (mean_text (mean_of kind figures commands))
     ++ letters_text 65 letters)))))
 
 -- The text for a register with this start and rule, which takes the moves in their order; and for the one that is named.

@@ -1,7 +1,7 @@
 // The totals of a batch as text.
 ghost use Rattle.std.specs.Prelude.{◌≡◌, ◌^◌, ◌<◌, ◌≤◌, length, IfSome, codes};
 ghost use Rattle.std.specs.Int.Signed.{mag};
-ghost use Rattle.report.specs.Lines.{lineText};
+ghost use Rattle.report.specs.Lines.{line_text};
 ghost use Rattle.report.specs.Placed.{Writes};
 ghost use Rattle.report.specs.Printed.{Printed};
 ghost use Rattle.batch.specs.Totals.{letters_text, mean_of, mean_text, name_of, totals_text};
@@ -35,7 +35,7 @@ fn mean_of<R: Register>(batch: &Batch<R>) -> Option<i64>
 }
 
 fn write_mean(out: &mut [u8], at: usize, mean: Option<i64>) -> usize
-    ensures { Writes (lineText (codes "mean") (mean_text mean)) out.old at out.new result }
+    ensures { Writes (line_text (codes "mean") (mean_text mean)) out.old at out.new result }
 {
     match mean {
         Some(z) => put_signed_line(out, at, b"mean", z),

@@ -6,7 +6,7 @@ use Rattle.registers.specs.Kind.{Fits64}
 use Rattle.hub_records.specs.declared.hub.ExecState.{ExecState}
 use Rattle.hub_records.specs.declared.hub.ExecState.TheVariants.{Running, Success, Fatal}
 use Rattle.hub_records.specs.declared.look.Look.{Look}
-use Rattle.report.specs.Figures.{figuresText}
+use Rattle.report.specs.Figures.{figures_text}
 use Rattle.report.proofs.Bounds.{length_number, length_signed, length_figures}
 use Rattle.hub_report.specs.ReportText.{state_name, register_text, role_text, mean_of, mean_text, look_text}
 
@@ -16,8 +16,8 @@ FewFigures zs = All Fits64 zs × (length zs ≤ 1024)
 
 register_short : (number : ℕ) (zs : List ℤ) → FewFigures zs → length (register_text number zs) ≤ 21504
 register_short number zs few =
-    let shown : length (figuresText zs) ≤ 21 * length zs = length_figures zs few.0 in
-    cond_both (eqb number 0) (codes "none") (figuresText zs) (λ text. length text ≤ 21504) (λ _. omega arith) (λ _. omega arith)
+    let shown : length (figures_text zs) ≤ 21 * length zs = length_figures zs few.0 in
+    cond_both (eqb number 0) (codes "none") (figures_text zs) (λ text. length text ≤ 21504) (λ _. omega arith) (λ _. omega arith)
 
 pub role_short : (number_key version_key register_key : List ℕ) (number version : ℕ) (zs : List ℤ) → number < 2 ^ 64 → version < 2 ^ 64 → FewFigures zs
     → length (role_text number_key version_key register_key number version zs) ≤ length number_key + length version_key + length register_key + 21550

@@ -12,7 +12,7 @@ use Rattle.hub_runs.specs.Hubs.{Size, State}
 use Rattle.hub_runs.specs.Runs.{last_backup, last_master, number}
 use Rattle.hub_steps.proofs.CardTables.{at_is_getD}
 use Rattle.hub_steps.proofs.Fitted.{fitting}
-use Rattle.report.specs.Figures.{figuresText}
+use Rattle.report.specs.Figures.{figures_text}
 use Rattle.hub_report.specs.ReportText.{register_text}
 
 module _ {R : Type 0} (figures : R → List ℤ) where
@@ -29,7 +29,7 @@ module _ {R : Type 0} (figures : R → List ℤ) where
   at_every P none each (x ∷ xs) (suc (suc i)) = at_every P none each xs (suc i)
 
 -- A card's register is shown.
-pub shows_register : (n : ℕ) (zs : List ℤ) → 1 ≤ n → figuresText zs ≡ register_text n zs
+pub shows_register : (n : ℕ) (zs : List ℤ) → 1 ≤ n → figures_text zs ≡ register_text n zs
 shows_register n zs low = sym (cond-false (eqb n 0) _ _ (ne_eqb n 0 (λ e. omega arith)))
 
 -- The last card of a role is in the table.

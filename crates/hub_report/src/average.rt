@@ -2,7 +2,7 @@
 ghost use Rattle.std.specs.Prelude.{◌≡◌, ◌^◌, ◌<◌, ◌≤◌, [], map, length, IfSome, codes};
 ghost use Rattle.std.specs.Int.Signed.{mag};
 ghost use Rattle.hub_cards.specs.Tables.{at};
-ghost use Rattle.report.specs.Lines.{lineText};
+ghost use Rattle.report.specs.Lines.{line_text};
 ghost use Rattle.report.specs.Placed.{Writes};
 ghost use Rattle.hub_report.specs.ReportText.{mean_of, mean_of_first, mean_text};
 
@@ -36,7 +36,7 @@ pub(crate) fn mean_of<R: Register>(number: usize, version: u32, registers: &[R])
 }
 
 pub(crate) fn write_mean(out: &mut [u8], place: usize, mean: Option<i64>) -> usize
-    ensures { Writes (lineText (codes "mean") (mean_text mean)) out.old place out.new result }
+    ensures { Writes (line_text (codes "mean") (mean_text mean)) out.old place out.new result }
 {
     match mean {
         Some(z) => put_signed_line(out, place, b"mean", z),

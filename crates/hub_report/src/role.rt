@@ -1,7 +1,7 @@
 // The lines of one role, which are of its last card.
 ghost use Rattle.std.specs.Prelude.{◌+◌, ◌≤◌, [], map, length};
 ghost use Rattle.hub_cards.specs.Tables.{at};
-ghost use Rattle.report.specs.Lines.{lineText};
+ghost use Rattle.report.specs.Lines.{line_text};
 ghost use Rattle.report.specs.Placed.{Writes};
 ghost use Rattle.hub_report.specs.ReportText.{register_text, role_text};
 
@@ -17,7 +17,7 @@ fn write_register<R: Register>(
     registers: &[R],
 ) -> usize
     requires { number ≤ length registers.now }
-    ensures { Writes (lineText key.now (register_text number (at [] (map R.figures registers.now) number))) out.old place out.new result }
+    ensures { Writes (line_text key.now (register_text number (at [] (map R.figures registers.now) number))) out.old place out.new result }
 {
     if number == 0 {
         put_line(out, place, key, b"none")

@@ -1,7 +1,7 @@
 -- The worked runs, and those with a shortcut, compute.
 use Rattle.std.proofs.Common.{refl}
 use Rattle.std.specs.Int.{int_wrap}
-use Rattle.registers.specs.Mean.{meanOf}
+use Rattle.registers.specs.Mean.{mean_of_sum}
 use Rattle.hub_tables.specs.Search.{first, last}
 use Rattle.hub_runs.specs.Hubs.{all_done}
 use Rattle.hub_runs.specs.Judging.{guard, with_card, by_card, carried_out, judged, by_letter, step}
@@ -10,7 +10,7 @@ use Rattle.hub_runs.specs.Shortcuts.{ShortcutsMiscount}
 use Rattle.hub_runs.specs.WorkedRuns.{WorkedRuns}
 
 computed : WorkedRuns × ShortcutsMiscount
-unfolding int_wrap meanOf first last all_done guard with_card by_card carried_out judged by_letter step lists_after lists_by_letter after_answer after run_of
+unfolding int_wrap mean_of_sum first last all_done guard with_card by_card carried_out judged by_letter step lists_after lists_by_letter after_answer after run_of
 computed = (
   (
     ((refl, refl, refl), refl),

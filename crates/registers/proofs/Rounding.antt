@@ -5,7 +5,7 @@ use Rattle.std.proofs.lemmas.Bool.{both_ways, cases_lt}
 use Rattle.std.proofs.lemmas.Bool.Decides.{Decides-int_eq, nat_tests}
 use Rattle.std.specs.Option.{option_eq}
 use Rattle.std.specs.Ordering.{int_eq}
-use Rattle.registers.specs.Mean.{ComputesMean, IsMean, meanOf, MeanIs, Nearest, NoneNearer, off, OneMean, rounded, with_sign}
+use Rattle.registers.specs.Mean.{ComputesMean, IsMean, mean_of_sum, MeanIs, Nearest, NoneNearer, off, OneMean, rounded, with_sign}
 use Rattle.registers.proofs.Sizes.{off_size, only_rounded, rounded_is}
 
 size_with_sign : (s : ℤ) (n : ℕ) → nat_abs (with_sign s n) ≡ n
@@ -55,12 +55,12 @@ none_nearer s v r q some is =
     (λ far. omega (arith, is.nearest))
     (cases_lt (off s v q) v)
 
-pub answered : (s : ℤ) (v : ℕ) (r : ℤ) → 0 < v → r ≡ computed s v → (Some r ≡ meanOf s v) × MeanIs s v (Some r)
-unfolding meanOf
+pub answered : (s : ℤ) (v : ℕ) (r : ℤ) → 0 < v → r ≡ computed s v → (Some r ≡ mean_of_sum s v) × MeanIs s v (Some r)
+unfolding mean_of_sum
 answered s v r some e = (grind (arith, nat_tests), (some, subst (IsMean s v) (sym e) (computed_is s v some)))
 
-pub unanswered : (s : ℤ) (v : ℕ) → v ≡ 0 → None ≡ meanOf s v
-unfolding meanOf
+pub unanswered : (s : ℤ) (v : ℕ) → v ≡ 0 → None ≡ mean_of_sum s v
+unfolding mean_of_sum
 unanswered s v none = grind (arith, nat_tests)
 
 pub computes_mean : ComputesMean

@@ -39,12 +39,12 @@ with_sign (pos a) n = pos n
 with_sign (negsuc a) n = neg_ℤ (pos n)
 
 -- The mean, for what is built on it, as a text that shows it.
-unfoldable pub meanOf : ℤ → ℕ → Option ℤ
-meanOf sum version = cond (version == 0) None (Some (with_sign sum (rounded (unsigned_abs sum) version)))
+unfoldable pub mean_of_sum : ℤ → ℕ → Option ℤ
+mean_of_sum sum version = cond (version == 0) None (Some (with_sign sum (rounded (unsigned_abs sum) version)))
 
 -- What is computed is a mean.
 abbrev pub ComputesMean : Type 0
-ComputesMean = (sum : ℤ) (version : ℕ) → MeanIs sum version (meanOf sum version)
+ComputesMean = (sum : ℤ) (version : ℕ) → MeanIs sum version (mean_of_sum sum version)
 
 -- No two numbers are the mean of the same sum and version.
 abbrev pub OneMean : Type 0

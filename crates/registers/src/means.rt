@@ -1,11 +1,11 @@
 // The mean of a sum of moves.
 ghost use Rattle.std.specs.Prelude.{◌≡◌, ◌<◌, Decides};
-ghost use Rattle.registers.specs.Mean.{ComputesMean, IsMean, meanOf, MeanIs, NoneNearer, OneMean};
+ghost use Rattle.registers.specs.Mean.{ComputesMean, IsMean, mean_of_sum, MeanIs, NoneNearer, OneMean};
 
 /// The whole number nearest to the sum over the version; of two that are equally near, the one farther from zero.
 /// Version 0 has no mean.
 pub fn mean(sum: i64, version: u32) -> Option<i64>
-    ensures value { result ≡ meanOf sum version }
+    ensures value { result ≡ mean_of_sum sum version }
     ensures nearest { MeanIs sum version result }
 {
     if version == 0 {

@@ -6,12 +6,12 @@ use Rattle.std.proofs.lemmas.List.{length-append}
 use Rattle.std.specs.List.{flat_map, AllByRecursion as All}
 use Rattle.std.specs.Fmt.{signed_decimal}
 use Rattle.registers.specs.Kind.{Fits64}
-use Rattle.report.specs.Figures.{afterComma, figuresText}
-use Rattle.report.specs.Lines.{lineText}
+use Rattle.report.specs.Figures.{figure_after_comma, figures_text}
+use Rattle.report.specs.Lines.{line_text}
 
-pub length_line : (key value : List ℕ) → length (lineText key value) ≡ length key + length value + 2
+pub length_line : (key value : List ℕ) → length (line_text key value) ≡ length key + length value + 2
 length_line key value =
-    let outer : length (lineText key value) ≡ length (key ++ (61 ∷ value)) + 1 = length-append (key ++ (61 ∷ value)) (10 ∷ []) in
+    let outer : length (line_text key value) ≡ length (key ++ (61 ∷ value)) + 1 = length-append (key ++ (61 ∷ value)) (10 ∷ []) in
     let inner : length (key ++ (61 ∷ value)) ≡ length key + length (61 ∷ value) = length-append key (61 ∷ value) in
     omega arith
 
@@ -23,28 +23,28 @@ length_number n h = let small : n < 10 ^ 20 = omega arith in length-decimal-le 2
 pub length_signed : (z : ℤ) → mag z < 2 ^ 63 → length (signed_decimal z) ≤ 20
 length_signed z h = let small : mag z + 1 < 10 ^ 19 = omega arith in length_signed_le 19 z small h
 
-pub length_count_line : (key : List ℕ) (n : ℕ) → n < 2 ^ 64 → length (lineText key (decimal n)) ≤ length key + 22
+pub length_count_line : (key : List ℕ) (n : ℕ) → n < 2 ^ 64 → length (line_text key (decimal n)) ≤ length key + 22
 length_count_line key n h =
     let digits : length (decimal n) ≤ 20 = length_number n h in
-    let whole : length (lineText key (decimal n)) ≡ length key + length (decimal n) + 2 = length_line key (decimal n) in
+    let whole : length (line_text key (decimal n)) ≡ length key + length (decimal n) + 2 = length_line key (decimal n) in
     omega arith
 
-pub length_signed_line : (key : List ℕ) (z : ℤ) → mag z < 2 ^ 63 → length (lineText key (signed_decimal z)) ≤ length key + 22
+pub length_signed_line : (key : List ℕ) (z : ℤ) → mag z < 2 ^ 63 → length (line_text key (signed_decimal z)) ≤ length key + 22
 length_signed_line key z h =
     let digits : length (signed_decimal z) ≤ 20 = length_signed z h in
-    let whole : length (lineText key (signed_decimal z)) ≡ length key + length (signed_decimal z) + 2 = length_line key (signed_decimal z) in
+    let whole : length (line_text key (signed_decimal z)) ≡ length key + length (signed_decimal z) + 2 = length_line key (signed_decimal z) in
     omega arith
 
 -- Each figure after the first adds a comma and its own text.
-length_after_commas : (zs : List ℤ) → All Fits64 zs → length (flat_map afterComma zs) ≤ 21 * length zs
+length_after_commas : (zs : List ℤ) → All Fits64 zs → length (flat_map figure_after_comma zs) ≤ 21 * length zs
 length_after_commas [] h = omega arith
 length_after_commas (z ∷ zs) (h, hs) =
     let one : length (signed_decimal z) ≤ 20 = length_signed z h in
-    let rest : length (flat_map afterComma zs) ≤ 21 * length zs = length_after_commas zs hs in
-    let both : length (afterComma z ++ flat_map afterComma zs) ≡ length (afterComma z) + length (flat_map afterComma zs) = length-append (afterComma z) (flat_map afterComma zs) in
+    let rest : length (flat_map figure_after_comma zs) ≤ 21 * length zs = length_after_commas zs hs in
+    let both : length (figure_after_comma z ++ flat_map figure_after_comma zs) ≡ length (figure_after_comma z) + length (flat_map figure_after_comma zs) = length-append (figure_after_comma z) (flat_map figure_after_comma zs) in
     omega arith
 
 -- The text of figures that each fit 64 bits has at most 21 bytes for each of them.
-pub length_figures : (zs : List ℤ) → All Fits64 zs → length (figuresText zs) ≤ 21 * length zs
+pub length_figures : (zs : List ℤ) → All Fits64 zs → length (figures_text zs) ≤ 21 * length zs
 length_figures [] h = omega arith
 length_figures (z ∷ zs) h = omega (arith, length_after_commas (z ∷ zs) h)

@@ -2,8 +2,8 @@
 use Rattle.std.specs.Prelude.{ℕ, List, ◌++◌, codes, decimal}
 use Rattle.refusals.specs.declared.Refusal.{Refusal}
 use Rattle.refusals.specs.Refusals.{number_of, line_of}
-use Rattle.report.specs.Lines.{lineText}
+use Rattle.report.specs.Lines.{line_text}
 
 -- The line is 0 where the refusal speaks of none.
-abbrev pub faultText : Refusal → List ℕ
-faultText f = lineText (codes "fault") (decimal (number_of f)) ++ lineText (codes "line") (decimal (line_of f))
+abbrev pub text_of_fault : Refusal → List ℕ
+text_of_fault f = line_text (codes "fault") (decimal (number_of f)) ++ line_text (codes "line") (decimal (line_of f))

@@ -1,7 +1,7 @@
 // Lines of a report: a key, `=`, a value and a line feed. Each is written whole or not at all.
 ghost use Rattle.std.specs.Prelude.{decimal};
 ghost use Rattle.std.specs.Fmt.{signed_decimal};
-ghost use Rattle.report.specs.Lines.{lineText};
+ghost use Rattle.report.specs.Lines.{line_text};
 ghost use Rattle.report.specs.Placed.{Puts, Writes};
 
 use crate::digits::{ROOM, spell, spell_signed};
@@ -9,7 +9,7 @@ use crate::writer::put;
 
 // Writes the four parts of a line, each if it fits.
 fn write_line(out: &mut [u8], at: usize, key: &[u8], value: &[u8]) -> usize
-    ensures { Writes (lineText key.now value.now) out.old at out.new result }
+    ensures { Writes (line_text key.now value.now) out.old at out.new result }
 {
     let after_key = put(out, at, key);
     let after_sign = put(out, after_key, b"=");
@@ -19,7 +19,7 @@ fn write_line(out: &mut [u8], at: usize, key: &[u8], value: &[u8]) -> usize
 
 // Writes the line of `key` and `value` from the place `at` on.
 pub fn put_line(out: &mut [u8], at: usize, key: &[u8], value: &[u8]) -> usize
-    ensures { Puts (lineText key.now value.now) out.old at out.new result }
+    ensures { Puts (line_text key.now value.now) out.old at out.new result }
 {
     let end = write_line(&mut [], at, key, value);
     if end <= out.len() {
@@ -31,7 +31,7 @@ pub fn put_line(out: &mut [u8], at: usize, key: &[u8], value: &[u8]) -> usize
 
 // Writes the line of `key` and the number n from the place `at` on.
 pub fn put_count_line(out: &mut [u8], at: usize, key: &[u8], n: u64) -> usize
-    ensures { Puts (lineText key.now (decimal n)) out.old at out.new result }
+    ensures { Puts (line_text key.now (decimal n)) out.old at out.new result }
 {
     let mut text = [0; ROOM];
     let first = spell(n, &mut text);
@@ -40,7 +40,7 @@ pub fn put_count_line(out: &mut [u8], at: usize, key: &[u8], n: u64) -> usize
 
 // Writes the line of `key` and the number z from the place `at` on.
 pub fn put_signed_line(out: &mut [u8], at: usize, key: &[u8], z: i64) -> usize
-    ensures { Puts (lineText key.now (signed_decimal z)) out.old at out.new result }
+    ensures { Puts (line_text key.now (signed_decimal z)) out.old at out.new result }
 {
     let mut text = [0; ROOM];
     let first = spell_signed(z, &mut text);

@@ -9,7 +9,7 @@ use Rattle.hub_records.specs.declared.hub.Hub.{Hub}
 use Rattle.hub_runs.specs.Fits.{state_fits}
 use Rattle.hub_runs.specs.Hubs.{Size, State}
 use Rattle.hub_runs.specs.States.{Lent, lent, size_of, state_in}
-use Rattle.report.specs.Fault.{faultText}
+use Rattle.report.specs.Fault.{text_of_fault}
 use Rattle.report.specs.Printed.{Printed}
 use Rattle.hub_report.specs.ReportText.{report_text}
 use Rattle.hub_report.specs.Reporting.{Reports}
@@ -66,15 +66,15 @@ module _ (code : ℕ) (start : List ℤ) (rule : Rule) (p : Replay) (out out' : 
   pub tried_report : (s : Result Shown Refusal) → p.ending ≡ None → Shows (report_text code (state_told start rule p.told)) 1 out s out' → Tried (names_another p.ending) (text_due code start rule p) (number_due p.ending) out (Some s) out'
   tried_report s e shows = subst (λ (o : Option Refusal). Tried (names_another o) (by_ending o (report_text code (state_told start rule p.told))) (number_due o) out (Some s) out') (sym e) shows
 
-  pub tried_fault : (s : Result Shown Refusal) (refusal : Refusal) → p.ending ≡ Some refusal → is_of_another refusal ≡ false → Shows (faultText refusal) 2 out s out' → Tried (names_another p.ending) (text_due code start rule p) (number_due p.ending) out (Some s) out'
+  pub tried_fault : (s : Result Shown Refusal) (refusal : Refusal) → p.ending ≡ Some refusal → is_of_another refusal ≡ false → Shows (text_of_fault refusal) 2 out s out' → Tried (names_another p.ending) (text_due code start rule p) (number_due p.ending) out (Some s) out'
   tried_fault s refusal e own shows =
       subst (λ (o : Option Refusal). Tried (names_another o) (by_ending o (report_text code (state_told start rule p.told))) (number_due o) out (Some s) out') (sym e)
-      (subst (λ b. Tried b (faultText refusal) 2 out (Some s) out') (sym own) shows)
+      (subst (λ b. Tried b (text_of_fault refusal) 2 out (Some s) out') (sym own) shows)
 
   pub tried_another : (refusal : Refusal) → p.ending ≡ Some refusal → is_of_another refusal ≡ true → out' ≡ out → Tried (names_another p.ending) (text_due code start rule p) (number_due p.ending) out None out'
   tried_another refusal e other same =
       subst (λ (o : Option Refusal). Tried (names_another o) (by_ending o (report_text code (state_told start rule p.told))) (number_due o) out None out') (sym e)
-      (subst (λ b. Tried b (faultText refusal) 2 out None out') (sym other) (refl, same))
+      (subst (λ b. Tried b (text_of_fault refusal) 2 out None out') (sym other) (refl, same))
 
 -- What an attempt says.
 pub attempt_shown : (b : Bool) (text : List ℕ) (n : ℕ) (out out' : List ℕ) (s : Result Shown Refusal) → Tried b text n out (Some s) out' → (b ≡ false) × Shows text n out s out'
@@ -89,14 +89,14 @@ attempt_none true text n out out' t = (refl, t.1)
 attempt_none false text n out out' t = absurd t
 
 -- A journal that names no register at all gets the fault of line 4.
-pub names_none : (e : Option Refusal) (report : List ℕ) → names_another e ≡ true → (by_ending e report ≡ faultText (ValueNotAllowed 4)) × (number_due e ≡ 2)
+pub names_none : (e : Option Refusal) (report : List ℕ) → names_another e ≡ true → (by_ending e report ≡ text_of_fault (ValueNotAllowed 4)) × (number_due e ≡ 2)
 names_none None report h = let z : ◌≡◌ {A = ℕ} 0 1 = cc in let w : ⊥ = omega arith in absurd w
 names_none (Some refusal) report h = (
   by_number (eqb (number_of refusal) 15) refl h,
   refl,
 )
   where
-    by_number : (b : Bool) → eqb (number_of refusal) 15 ≡ b → cond b (eqb (line_of refusal) 4) false ≡ true → faultText refusal ≡ faultText (ValueNotAllowed 4)
+    by_number : (b : Bool) → eqb (number_of refusal) 15 ≡ b → cond b (eqb (line_of refusal) 4) false ≡ true → text_of_fault refusal ≡ text_of_fault (ValueNotAllowed 4)
     by_number true n l =
         let number : number_of refusal ≡ 15 = eqb-true _ _ n in
         let line : line_of refusal ≡ 4 = eqb-true _ _ l in

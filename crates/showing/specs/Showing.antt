@@ -7,7 +7,7 @@ use Rattle.registers.specs.Kind.{Kind, Rule}
 use Rattle.registers.specs.Peak.{the_peak}
 use Rattle.registers.specs.Sum.{the_sum}
 use Rattle.journal.specs.declared.registers.Accepted.TheVariants.{Only}
-use Rattle.report.specs.Fault.{faultText}
+use Rattle.report.specs.Fault.{text_of_fault}
 use Rattle.report.specs.Printed.{Printed}
 use Rattle.hub_report.specs.ReportText.{report_text}
 use Rattle.replay.specs.Replaying.{Replay, replay_of}
@@ -31,7 +31,7 @@ number_due (Some refusal) = 2
 
 abbrev pub by_ending : Option Refusal → List ℕ → List ℕ
 by_ending None report = report
-by_ending (Some refusal) report = faultText refusal
+by_ending (Some refusal) report = text_of_fault refusal
 
 abbrev pub text_due : ℕ → List ℤ → Rule → Replay → List ℕ
 text_due code start rule p = by_ending p.ending (report_text code (state_told start rule p.told))

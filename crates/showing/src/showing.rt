@@ -2,7 +2,7 @@
 ghost use Rattle.std.specs.Prelude.{◌≡◌, length, None};
 ghost use Rattle.hub_runs.specs.States.{lent};
 ghost use Rattle.journal.specs.declared.registers.Accepted.TheVariants.{Only};
-ghost use Rattle.report.specs.Fault.{faultText};
+ghost use Rattle.report.specs.Fault.{text_of_fault};
 ghost use Rattle.replay.specs.Replayed.{front};
 ghost use Rattle.replay.specs.Replaying.{replay_of};
 ghost use Rattle.replay.specs.Standing.{Stands};
@@ -21,7 +21,7 @@ use replay::replay;
 use report::fault_text;
 
 fn show_fault(refusal: Refusal, out: &mut [u8]) -> Result<Shown, Refusal>
-    ensures { Shows (faultText refusal) 2 out.old result out.new }
+    ensures { Shows (text_of_fault refusal) 2 out.old result out.new }
 {
     match fault_text(refusal, out) {
         Ok(length) => Ok(Shown::Fault(length)),

@@ -1,13 +1,13 @@
 use Rattle.std.proofs.Common.{◌≡◌, ℕ, List, codes, decimal, ap, arith}
-use Rattle.report.specs.Lines.{lineText}
+use Rattle.report.specs.Lines.{line_text}
 use Rattle.report.specs.Placed.{Puts, Writes}
 use Rattle.report.proofs.Writing.{puts_writes, writes_then, writes_as}
 use Rattle.batch.specs.Totals.{mean_text, totals_text}
 use Rattle.batch.proofs.Bounds.{totals_short}
 use Rattle.batch.proofs.text.write_totals.Goals as goal
 
-counted : {out : List ℕ} {at : ℕ} {out' : List ℕ} {r : ℕ} (key : List ℕ) (n m : ℕ) → n ≡ m → Puts (lineText key (decimal n)) out at out' r → Writes (lineText key (decimal m)) out at out' r
-counted key n m e p = writes_as (ap (λ k. lineText key (decimal k)) e) (puts_writes p)
+counted : {out : List ℕ} {at : ℕ} {out' : List ℕ} {r : ℕ} (key : List ℕ) (n m : ℕ) → n ≡ m → Puts (line_text key (decimal n)) out at out' r → Writes (line_text key (decimal m)) out at out' r
+counted key n m e p = writes_as (ap (λ k. line_text key (decimal k)) e) (puts_writes p)
 
 pub returns : goal.returns
 unfolding totals_text
@@ -22,8 +22,8 @@ returns g c =
           writes_then (counted (codes "commands") _ _ c.from.ensures c.put-count-line-after-commands.ensures)
           (writes_then (counted (codes "kills") _ _ c.from-2.ensures c.put-count-line-after-kills.ensures)
           (writes_then (counted (codes "cards") _ _ c.from-3.ensures c.put-count-line-after-cards.ensures)
-          (writes_then (writes_as (ap (lineText (codes "register")) c.name.ensures) (puts_writes c.put-line-after-register.ensures))
+          (writes_then (writes_as (ap (line_text (codes "register")) c.name.ensures) (puts_writes c.put-line-after-register.ensures))
           (writes_then (puts_writes c.put-figures-line-after-figures.ensures)
-          (writes_then (writes_as (ap (λ m. lineText (codes "mean") (mean_text m)) c.mean_of.ensures.value) c.write-mean-after-mean.ensures)
+          (writes_then (writes_as (ap (λ m. line_text (codes "mean") (mean_text m)) c.mean_of.ensures.value) c.write-mean-after-mean.ensures)
           c.write-letters.ensures.writes)))));
     }

@@ -1,14 +1,14 @@
 use Rattle.std.proofs.Common.{◌≡◌, ℕ, List, [], map, codes, decimal, ap, arith}
 use Rattle.hub_cards.specs.Tables.{at}
-use Rattle.report.specs.Lines.{lineText}
+use Rattle.report.specs.Lines.{line_text}
 use Rattle.report.specs.Placed.{Puts, Writes}
 use Rattle.report.proofs.Writing.{puts_writes, writes_then, writes_as}
 use Rattle.hub_report.specs.ReportText.{look_text, mean_text}
 use Rattle.hub_report.proofs.Bounds.{look_short}
 use Rattle.hub_report.proofs.reporting.write_look.Goals as goal
 
-counted : {out : List ℕ} {at : ℕ} {out' : List ℕ} {r : ℕ} (key : List ℕ) (n m : ℕ) → n ≡ m → Puts (lineText key (decimal n)) out at out' r → Writes (lineText key (decimal m)) out at out' r
-counted key n m e p = writes_as (ap (λ k. lineText key (decimal k)) e) (puts_writes p)
+counted : {out : List ℕ} {at : ℕ} {out' : List ℕ} {r : ℕ} (key : List ℕ) (n m : ℕ) → n ≡ m → Puts (line_text key (decimal n)) out at out' r → Writes (line_text key (decimal m)) out at out' r
+counted key n m e p = writes_as (ap (λ k. line_text key (decimal k)) e) (puts_writes p)
 
 pub returns : goal.returns
 unfolding look_text
@@ -20,10 +20,10 @@ returns g c =
     record {
       short = look_short kind.code seen master backup (omega (arith, c.from.ensures, c.from.type-inv)) (omega (arith, c.from-2.ensures, c.from-2.type-inv)) c.write-role-after-master.ensures.short c.write-role-after-backup.ensures.short (rw (← c.mean-of-mean.ensures.value) c.mean-of-mean.ensures.fits);
       writes =
-          writes_then (writes_as (ap (lineText (codes "state")) c.name.ensures) (puts_writes c.put-line-after-state.ensures))
+          writes_then (writes_as (ap (line_text (codes "state")) c.name.ensures) (puts_writes c.put-line-after-state.ensures))
           (writes_then (counted (codes "steps") _ _ c.from.ensures c.put-count-line-after-steps.ensures)
           (writes_then (counted (codes "losses") _ _ c.from-2.ensures c.put-count-line-after-losses.ensures)
           (writes_then c.write-role-after-master.ensures.writes
           (writes_then c.write-role-after-backup.ensures.writes
-          (writes_as (ap (λ m. lineText (codes "mean") (mean_text m)) c.mean-of-mean.ensures.value) c.write-mean.ensures)))));
+          (writes_as (ap (λ m. line_text (codes "mean") (mean_text m)) c.mean-of-mean.ensures.value) c.write-mean.ensures)))));
     }

@@ -1,5 +1,5 @@
 use Rattle.std.proofs.Common.{decimal, ap, arith}
-use Rattle.report.specs.Lines.{lineText}
+use Rattle.report.specs.Lines.{line_text}
 use Rattle.report.proofs.Writing.{puts_writes, writes_as, writes_then}
 use Rattle.hub_report.proofs.Bounds.{FewFigures, role_short}
 use Rattle.hub_report.proofs.LastCards.{at_every}
@@ -15,6 +15,6 @@ returns g c =
       short = role_short a.number_key.now a.version_key.now a.register_key.now a.number a.version _ (omega arith) (omega (arith, c.from.ensures, c.from.type-inv)) few;
       writes =
           writes_then (puts_writes c.put-count-line-after-number.ensures)
-          (writes_then (writes_as (ap (λ n. lineText a.version_key.now (decimal n)) c.from.ensures) (puts_writes c.put-count-line-after-version.ensures))
+          (writes_then (writes_as (ap (λ n. line_text a.version_key.now (decimal n)) c.from.ensures) (puts_writes c.put-count-line-after-version.ensures))
           c.write-register.ensures);
     }

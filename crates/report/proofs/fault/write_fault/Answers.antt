@@ -1,15 +1,15 @@
 use Rattle.std.proofs.Common.{◌≡◌, ℕ, ◌+◌, ◌^◌, ◌<◌, ◌≤◌, List, ◌++◌, length, codes, decimal, ap, arith}
 use Rattle.std.proofs.lemmas.List.{length-append}
-use Rattle.report.specs.Lines.{lineText}
+use Rattle.report.specs.Lines.{line_text}
 use Rattle.report.proofs.Bounds.{length_count_line}
 use Rattle.report.proofs.Writing.{puts_writes, puts_as, writes_then}
 use Rattle.report.proofs.fault.write_fault.Goals as goal
 
-two_lines_short : (key key' : List ℕ) (m n : ℕ) → m < 2 ^ 64 → n < 2 ^ 64 → length key ≤ 5 → length key' ≤ 5 → length (lineText key (decimal m) ++ lineText key' (decimal n)) < 2 ^ 64
+two_lines_short : (key key' : List ℕ) (m n : ℕ) → m < 2 ^ 64 → n < 2 ^ 64 → length key ≤ 5 → length key' ≤ 5 → length (line_text key (decimal m) ++ line_text key' (decimal n)) < 2 ^ 64
 two_lines_short key key' m n h h' k k' =
-    let first : length (lineText key (decimal m)) ≤ length key + 22 = length_count_line key m h in
-    let second : length (lineText key' (decimal n)) ≤ length key' + 22 = length_count_line key' n h' in
-    let both : length (lineText key (decimal m) ++ lineText key' (decimal n)) ≡ length (lineText key (decimal m)) + length (lineText key' (decimal n)) = length-append (lineText key (decimal m)) (lineText key' (decimal n)) in
+    let first : length (line_text key (decimal m)) ≤ length key + 22 = length_count_line key m h in
+    let second : length (line_text key' (decimal n)) ≤ length key' + 22 = length_count_line key' n h' in
+    let both : length (line_text key (decimal m) ++ line_text key' (decimal n)) ≡ length (line_text key (decimal m)) + length (line_text key' (decimal n)) = length-append (line_text key (decimal m)) (line_text key' (decimal n)) in
     omega arith
 
 pub returns : goal.returns
@@ -19,6 +19,6 @@ returns c =
     record {
       short = two_lines_short (codes "fault") (codes "line") _ _ (omega arith) (omega arith) (omega arith) (omega arith);
       writes = writes_then
-          (puts_writes (puts_as (ap (λ (n : ℕ). lineText (codes "fault") (decimal n)) number) c.put-count-line-second.ensures))
-          (puts_writes (puts_as (ap (λ (n : ℕ). lineText (codes "line") (decimal n)) line) c.put-count-line.ensures));
+          (puts_writes (puts_as (ap (λ (n : ℕ). line_text (codes "fault") (decimal n)) number) c.put-count-line-second.ensures))
+          (puts_writes (puts_as (ap (λ (n : ℕ). line_text (codes "line") (decimal n)) line) c.put-count-line.ensures));
     }

@@ -2,7 +2,7 @@ use Rattle.std.proofs.Common.{◌≡◌, ℕ, ◌<◌, List, length, ℤ, pos, S
 use Rattle.std.proofs.lemmas.List.{take_all}
 use Rattle.std.proofs.lemmas.Option.{slice_get-get_or}
 use Rattle.std.specs.List.{slice_get}
-use Rattle.report.specs.Figures.{figuresText}
+use Rattle.report.specs.Figures.{figures_text}
 use Rattle.report.proofs.Commas.{writes_figure}
 use Rattle.report.proofs.Writing.{writes_none, writes_as}
 use Rattle.report.proofs.figures.write_figures.Goals as goal
@@ -30,4 +30,4 @@ loop-place-preserved g c =
     ]
 
 pub returns : goal.returns
-returns g c = writes_as (ap figuresText (take_all c.loop-place.place (g.R.Register.figures c.args.register.now) (omega arith))) c.loop-place.invariant
+returns g c = writes_as (ap figures_text (take_all c.loop-place.place (g.R.Register.figures c.args.register.now) (omega arith))) c.loop-place.invariant
