@@ -22,7 +22,7 @@ loop-answer-preserved g c = (
       let accepts = c.args.reader.now.accepts in
       let text = c.args.reader.now.text.now in
       let before = c.loop-answer.reader.place in
-      let after = c.next-line.new.self.place in
+      let after = c.next_line.new.self.place in
       let same_text = ap (λ (r : Bor (List ℕ)). r.now) inv.0 in
       let read = c.in-Ok.ensures in
       let line = of_line _ _ _ _ _ _ _ c.in-Some.line c.in-Some.is read.says read.moves in
@@ -31,12 +31,12 @@ loop-answer-preserved g c = (
       let number : c.place-at.result.line ≡ before.line = ap (λ (p : Place). p.line) c.place-at.ensures in
       let told : noted start rule before.line now_told entry ≡ step_noted start rule c.place-at.result.line now_told entry = cond-true _ _ _ so_far.1.made ∙ ap (λ n. step_noted start rule n now_told entry) (sym number) in
       let onward : Told → Replay = λ more. replay_rest accepts start rule text after more in
-      let done = carried_out start rule _ now_told entry _ (c.in-Ok-note-step.ensures now_told so_far.1) in
+      let done = carried_out start rule _ now_told entry _ (c.in-Ok-note_step.ensures now_told so_far.1) in
       (done.0, done.1, line.1.2 ∙ commands_kept start rule _ _ now_told done.0 entry so_far.2 done.2, so_far.3 ∙ next ∙ ap (λ (r : Result Told Refusal). after_noted now_told r onward) (told ∙ done.2)),
 )
 
-pub returns-in-Err-note-step : goal.returns-in-Err-note-step
-returns-in-Err-note-step g c t stands known =
+pub returns-in-Err-note_step : goal.returns-in-Err-note_step
+returns-in-Err-note_step g c t stands known =
     let inv = c.loop-answer.invariant in
     let so_far = inv.2 t stands known in
     let now_told : Told = so_far.0 in
@@ -45,7 +45,7 @@ returns-in-Err-note-step g c t stands known =
     let accepts = c.args.reader.now.accepts in
     let text = c.args.reader.now.text.now in
     let before = c.loop-answer.reader.place in
-    let after = c.next-line.new.self.place in
+    let after = c.next_line.new.self.place in
     let same_text = ap (λ (r : Bor (List ℕ)). r.now) inv.0 in
     let read = c.in-Ok.ensures in
     let line = of_line _ _ _ _ _ _ _ c.in-Some.line c.in-Some.is read.says read.moves in
@@ -54,7 +54,7 @@ returns-in-Err-note-step g c t stands known =
     let number : c.place-at.result.line ≡ before.line = ap (λ (p : Place). p.line) c.place-at.ensures in
     let told : noted start rule before.line now_told entry ≡ step_noted start rule c.place-at.result.line now_told entry = cond-true _ _ _ so_far.1.made ∙ ap (λ n. step_noted start rule n now_told entry) (sym number) in
     let onward : Told → Replay = λ more. replay_rest accepts start rule text after more in
-    let cause = refused_so start rule _ now_told entry _ c.in-Err-note-step.refusal (c.in-Err-note-step.ensures now_told so_far.1) in
+    let cause = refused_so start rule _ now_told entry _ c.in-Err-note_step.refusal (c.in-Err-note_step.ensures now_told so_far.1) in
     (now_told, cause.1, so_far.3 ∙ next ∙ ap (λ (r : Result Told Refusal). after_noted now_told r onward) (told ∙ cause.0))
 
 pub returns-in-None : goal.returns-in-None
@@ -67,7 +67,7 @@ returns-in-None g c t stands known =
     let accepts = c.args.reader.now.accepts in
     let text = c.args.reader.now.text.now in
     let before = c.loop-answer.reader.place in
-    let after = c.next-line.new.self.place in
+    let after = c.next_line.new.self.place in
     let same_text = ap (λ (r : Bor (List ℕ)). r.now) inv.0 in
     let read = c.in-Ok.ensures in
     let here = in_other_words before now_told same_text inv.1 so_far.2 (of_end _ _ c.in-None.is read.says) in
@@ -83,7 +83,7 @@ returns-in-Err g c t stands known =
     let accepts = c.args.reader.now.accepts in
     let text = c.args.reader.now.text.now in
     let before = c.loop-answer.reader.place in
-    let after = c.next-line.new.self.place in
+    let after = c.next_line.new.self.place in
     let same_text = ap (λ (r : Bor (List ℕ)). r.now) inv.0 in
     let read = c.in-Err.ensures in
     let here = in_other_words before now_told same_text inv.1 so_far.2 read.says in
