@@ -1,7 +1,7 @@
 -- The classes: eight figures that count the moves by their size.
 use Rattle.std.specs.Prelude.{◌≡◌, ℕ, suc, ◌-◌, ◌^◌, ◌<◌, cond, List, [], ◌∷◌, length, replicate, ℤ, pos, negsuc, ◌+ℤ◌, nat_lt, slice_index_or, slice_set}
 use Rattle.std.specs.Int.{int_min}
-use Rattle.std.specs.List.{AllByRecursion as All}
+use Rattle.std.specs.List.{AllByRecursion}
 use Rattle.registers.specs.Kind.{Kind}
 use Rattle.registers.specs.Limits.{size_of}
 use Rattle.registers.specs.Taken.{Taken, hundredths_in}
@@ -39,7 +39,7 @@ IsCount (pos n) = n < 2 ^ 32
 IsCount (negsuc n) = ⊥
 
 abbrev pub IsClasses : List ℤ → Type 0
-IsClasses f = (length f ≡ 8) × All IsCount f
+IsClasses f = (length f ≡ 8) × AllByRecursion IsCount f
 
 abbrev pub the_classes : Kind
 the_classes = record { start = classes_start; rule = classes_rule; size = 8 }

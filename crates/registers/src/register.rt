@@ -1,6 +1,6 @@
 // What every register offers, whatever its kind.
 ghost use Rattle.std.specs.Prelude.{◌≡◌, ℕ, ◌≤◌, List, length, ℤ};
-ghost use Rattle.std.specs.List.{slice_get, AllByRecursion as All};
+ghost use Rattle.std.specs.List.{slice_get, AllByRecursion};
 ghost use Rattle.registers.specs.Kind.{Fits64, Rule};
 ghost use Rattle.registers.specs.Named.{Named};
 ghost use Rattle.registers.specs.OfMove.{taken_of};
@@ -64,7 +64,7 @@ pub trait Register: Copy {
     ghost small: { size ≤ 1024 };
 
     // Each figure fits a signed number of 64 bits.
-    ghost fits: { (f : List ℤ) → ours f → All Fits64 f };
+    ghost fits: { (f : List ℤ) → ours f → AllByRecursion Fits64 f };
 
     // Two moves in either order lead to the same figures.
     ghost commutes: { (f : List ℤ) (s t : Taken) → ours f → InRange s → InRange t → rule (rule f s) t ≡ rule (rule f t) s };
