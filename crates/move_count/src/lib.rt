@@ -30,21 +30,21 @@ impl Register for MoveCount {
 
     ghost code = { 0 };
 
-    ghost own = { first_of (Prim.search rules, Prim.grind (arith, Self.row.coded.inj)) };
+    ghost own = { Prim.search rules };
 
-    ghost begins = { first_of (Prim.search rules, Prim.grind (arith, Self.row.coded.inj)) };
+    ghost begins = { Prim.search rules };
 
-    ghost keeps = { first_of (Prim.search rules, Prim.grind (arith, Self.row.coded.inj)) };
+    ghost keeps = { Prim.search rules };
 
-    ghost sized = { first_of (Prim.search rules, Prim.grind (arith, Self.row.coded.inj)) };
+    ghost sized = { Prim.search rules };
 
-    ghost small = { first_of (Prim.search rules, Prim.grind (arith, Self.row.coded.inj)) };
+    ghost small = { Prim.search rules };
 
-    ghost fits = { first_of (Prim.search rules, Prim.grind (arith, Self.row.coded.inj)) };
+    ghost fits = { Prim.search rules };
 
-    ghost commutes = { first_of (Prim.search rules, Prim.grind (arith, Self.row.coded.inj)) };
+    ghost commutes = { Prim.search rules };
 
-    ghost named = { first_of (Prim.search rules, Prim.grind (arith, Self.row.coded.inj)) };
+    ghost named = { Prim.search rules };
 
     fn empty() -> MoveCount {
         MoveCount { moves: 0 }
