@@ -1,7 +1,7 @@
 -- The totals are a short text.
 use Rattle.std.proofs.Common.{◌≡◌, ℕ, suc, ◌+◌, ◌*◌, ◌^◌, ◌<◌, ◌≤◌, eqb, List, [], ◌∷◌, length, get_or, ℤ, IfSome, Some, None, codes, decimal, Option, arith, length-append}
 use lib.Signed.{mag}
-use Rattle.std.specs.List.{AllByRecursion as All}
+use Rattle.std.specs.List.{AllByRecursion}
 use Rattle.std.proofs.lemmas.Bool.{cond_both}
 use Rattle.registers.specs.Kind.{Fits64}
 use Rattle.report.specs.Figures.{figures_text}
@@ -24,7 +24,7 @@ mean_short : (mean : Option ℤ) → IfSome mean (λ z. mag z < 2 ^ 63) → leng
 mean_short None fits = omega arith
 mean_short (Some z) fits = length_signed z fits
 
-pub totals_short : (commands kills cards kind : ℕ) (figures : List ℤ) (letters : List ℕ) → commands < 2 ^ 64 → kills < 2 ^ 64 → cards < 2 ^ 64 → All Fits64 figures → length figures ≤ 1024 → IfSome (mean_of kind figures commands) (λ z. mag z < 2 ^ 63) → length (letters_text 65 letters) ≤ 414 → length (totals_text commands kills cards kind figures letters) < 2 ^ 64
+pub totals_short : (commands kills cards kind : ℕ) (figures : List ℤ) (letters : List ℕ) → commands < 2 ^ 64 → kills < 2 ^ 64 → cards < 2 ^ 64 → AllByRecursion Fits64 figures → length figures ≤ 1024 → IfSome (mean_of kind figures commands) (λ z. mag z < 2 ^ 63) → length (letters_text 65 letters) ≤ 414 → length (totals_text commands kills cards kind figures letters) < 2 ^ 64
 unfolding totals_text
 totals_short commands kills cards kind figures letters n k s fit few mean last =
     let first : length (decimal commands) ≤ 20 = length_number commands n in

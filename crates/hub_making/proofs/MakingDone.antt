@@ -1,7 +1,7 @@
 -- Where no cause is found and the tables are set, a hub begins.
 use Rattle.std.proofs.Common.{◌≡◌, ℕ, suc, true, eqb, List, [], ◌∷◌, map, length, replicate, ℤ, Some, None, Ok, Err, Option, Result, sym, ap, ◌∙◌, subst, inl, inr, arith}
 use Rattle.std.proofs.lemmas.Bool.{and_parts, cases_Bool, cond-false, cond-true, eqb-true, leb-true}
-use Rattle.std.specs.List.{AllByRecursion as All}
+use Rattle.std.specs.List.{AllByRecursion}
 use Rattle.refusals.specs.declared.Refusal.{Refusal}
 use Rattle.registers.specs.Kind.{Rule}
 use Rattle.registers.specs.Taken.{InRange}
@@ -19,7 +19,7 @@ use Rattle.hub_runs.proofs.GoingOn.{begins_run}
 use Rattle.hub_making.specs.Making.{all_lengths_fit, Begins, BeginsRun, by_move, cause, counts_fit, first_outside, Follows, Makes, MakesRun, move_fits, NewHub}
 
 -- Where no move is outside the limits, all are within them.
-none_outside : (n : ℕ) (moves : List ℤ) → first_outside n moves ≡ None → All InRange moves
+none_outside : (n : ℕ) (moves : List ℤ) → first_outside n moves ≡ None → AllByRecursion InRange moves
 unfolding first_outside
 none_outside n [] e = tt
 none_outside n (move ∷ moves) e =

@@ -1,6 +1,6 @@
 -- The report is a short text.
 use Rattle.std.proofs.Common.{ℕ, ◌+◌, ◌*◌, ◌^◌, ◌<◌, ◌≤◌, eqb, List, length, ℤ, IfSome, Some, None, codes, decimal, Option, arith, length-append}
-use Rattle.std.specs.List.{AllByRecursion as All}
+use Rattle.std.specs.List.{AllByRecursion}
 use Rattle.std.proofs.lemmas.Bool.{cond_both}
 use Rattle.registers.specs.Kind.{Fits64}
 use Rattle.hub_records.specs.declared.hub.ExecState.{ExecState}
@@ -12,7 +12,7 @@ use Rattle.hub_report.specs.ReportText.{state_name, register_text, role_text, me
 
 -- Figures that a register can have: no more than 1,024, each of 64 bits.
 abbrev pub FewFigures : List ℤ → Type 0
-FewFigures zs = All Fits64 zs × (length zs ≤ 1024)
+FewFigures zs = AllByRecursion Fits64 zs × (length zs ≤ 1024)
 
 register_short : (number : ℕ) (zs : List ℤ) → FewFigures zs → length (register_text number zs) ≤ 21504
 register_short number zs few =

@@ -1,6 +1,6 @@
 -- The order in which a card took its commands does not matter to its figures.
 use Rattle.std.proofs.Common.{◌≡◌, ℕ, zero, suc, ◌≤◌, false, cond, ◌&&◌, eqb, leb, List, [], ◌∷◌, ◌++◌, length, get_or, take, ℤ, pos, fold, sym, refl, ap, ◌∙◌, subst, ⊎_elim, add-one, arith}
-use Rattle.std.specs.List.{AllByRecursion as All}
+use Rattle.std.specs.List.{AllByRecursion}
 use Rattle.std.proofs.ByRecursion.{All-get_or}
 use Rattle.std.proofs.lemmas.List.{get_or_past, take_all}
 use Rattle.std.proofs.lemmas.List.Sums.{fold_push, fold_more}
@@ -13,7 +13,7 @@ use Rattle.hub_runs.specs.Promises.{times, Holds, NoRepeats, move_of, figures_of
 use Rattle.hub_runs.proofs.Times.{times-append, times_here, times_other}
 
 -- a number that no command has stands for a move of 0, which is in range too
-move_in_range : (moves : List ℤ) → All InRange moves → (c : ℕ) → InRange (move_of moves c)
+move_in_range : (moves : List ℤ) → AllByRecursion InRange moves → (c : ℕ) → InRange (move_of moves c)
 move_in_range moves ranged zero = omega arith
 move_in_range moves ranged (suc i) =
     ⊎_elim
@@ -38,7 +38,7 @@ times_without c d (y ∷ ys) holds =
     (λ e. ap (λ k. times d (k ∷ ys)) (eqb-true c y e))
     (λ ne. let later = times_without c d ys (held_later c y ys ne holds) in omega arith)
 
-module _ (start : List ℤ) (rule : Rule) (moves : List ℤ) (law : Commutes start rule) (ranged : All InRange moves) where
+module _ (start : List ℤ) (rule : Rule) (moves : List ℤ) (law : Commutes start rule) (ranged : AllByRecursion InRange moves) where
   -- a command that a list holds may as well be taken first
   taken_first : (c : ℕ) (ys : List ℕ) (f : List ℤ) → Reached start rule f → 1 ≤ times c ys → figures_of f rule moves ys ≡ figures_of f rule moves (c ∷ without c ys)
   unfolding times
@@ -79,7 +79,7 @@ numbers_figures start rule moves (suc n) within =
     ∙ sym (fold_more rule start moves n (pos 0) (omega arith))
     ∙ ap (λ k. fold rule start (take k moves)) (add-one n)
 
-pub in_number_order : (start : List ℤ) (rule : Rule) (moves : List ℤ) → Commutes start rule → All InRange moves → (list : List ℕ) → NoRepeats list → ((c : ℕ) → Holds list c → (1 ≤ c) × (c ≤ length moves)) → ((c : ℕ) → 1 ≤ c → c ≤ length moves → Holds list c) → figures_of start rule moves list ≡ fold rule start moves
+pub in_number_order : (start : List ℤ) (rule : Rule) (moves : List ℤ) → Commutes start rule → AllByRecursion InRange moves → (list : List ℕ) → NoRepeats list → ((c : ℕ) → Holds list c → (1 ≤ c) × (c ≤ length moves)) → ((c : ℕ) → 1 ≤ c → c ≤ length moves → Holds list c) → figures_of start rule moves list ≡ fold rule start moves
 in_number_order start rule moves law ranged list once known all =
     same_figures start rule moves law ranged list (numbers (length moves)) start at_start
     (λ c. let o = once c in let k = known c in let a = all c in let e = times_numbers c (length moves) in grind (arith, nat_tests))

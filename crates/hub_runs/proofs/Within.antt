@@ -1,7 +1,7 @@
 -- The tables of every run fit together: card numbers stay within the card places, only working commands hold a message,
 -- and no version exceeds the number of steps, which is bounded.
 use Rattle.std.proofs.Common.{◌≡◌, ℕ, zero, suc, ◌+◌, ◌-◌, ◌*◌, ◌<◌, ◌≤◌, Bool, true, false, cond, ◌&&◌, List, [], ◌∷◌, map, length, get_or, set, replicate, ℤ, nat_abs, Some, None, Option, sym, refl, ap, ◌∙◌, mul-le-mul, arith}
-use Rattle.std.specs.List.{list_all, AllByRecursion as All}
+use Rattle.std.specs.List.{list_all, AllByRecursion}
 use Rattle.std.proofs.lemmas.List.{length-replicate}
 use Rattle.std.proofs.lemmas.Bool.{and_from, eq-eqb, le-leb, leb-true, lt-ltb}
 use Rattle.registers.specs.Kind.{Rule}
@@ -254,12 +254,12 @@ module _ (size : Size) (rule : Rule) (s : State) (old : Within size s) where
   judged_within a c = guard_keeps _ _ _ _ (λ _. guard_keeps _ _ _ _ (λ _. guard_keeps _ _ _ _ (λ _. carried_within a c)))
 
 -- A made hub.
-each_fresh : (places : ℕ) → 1 ≤ places → (moves : List ℤ) → All InRange moves → (i : ℕ) → CommandWithin places (get_or (map fresh moves) i blank_client)
+each_fresh : (places : ℕ) → 1 ≤ places → (moves : List ℤ) → AllByRecursion InRange moves → (i : ℕ) → CommandWithin places (get_or (map fresh moves) i blank_client)
 each_fresh places some [] range i = record { limited = omega arith; own_master = omega arith; own_backup = omega arith; told = refl; told_master = omega arith; told_backup = omega arith }
 each_fresh places some (move ∷ moves) range zero = record { limited = range.0; own_master = some; own_backup = omega arith; told = refl; told_master = omega arith; told_backup = omega arith }
 each_fresh places some (move ∷ moves) range (suc i) = each_fresh places some moves range.1 i
 
-fresh_within : (places : ℕ) → 1 ≤ places → (moves : List ℤ) → All InRange moves → (c : ℕ) → CommandWithin places (at blank_client (map fresh moves) c)
+fresh_within : (places : ℕ) → 1 ≤ places → (moves : List ℤ) → AllByRecursion InRange moves → (c : ℕ) → CommandWithin places (at blank_client (map fresh moves) c)
 fresh_within places some moves range zero = each_fresh places some [] tt 0
 fresh_within places some moves range (suc i) = each_fresh places some moves range i
 

@@ -1,7 +1,7 @@
 -- Runs: what making a hub sets, and then any list of steps and looks, each on what the earlier ones left.
 -- A run also keeps, for each card, the list of the commands that the card has taken.
 use Rattle.std.specs.Prelude.{◌≡◌, ℕ, ◌+◌, ◌-◌, ◌≤◌, Bool, true, false, cond, List, [], ◌∷◌, ◌++◌, map, length, replicate, ℤ, Some, None, fold, Option}
-use Rattle.std.specs.List.{AllByRecursion as All}
+use Rattle.std.specs.List.{AllByRecursion}
 use Rattle.registers.specs.Kind.{Rule}
 use Rattle.registers.specs.Taken.{InRange}
 use Rattle.actions.specs.Letters.{action_of}
@@ -27,7 +27,7 @@ pub record Limits (size : Size) (moves : List ℤ) : Type 0 where
   pub some_instances : 1 ≤ size.max_instance
   pub few_instances : size.max_instance ≤ 8
   pub one_move_each : length moves ≡ size.client_num
-  pub in_range : All InRange moves
+  pub in_range : AllByRecursion InRange moves
 
 -- A call of a run: a step, by its letter's code and a command's number, or a look.
 pub data Call : Type 0 where

@@ -1,6 +1,6 @@
 -- The header of a journal makes a hub: none of the causes for which making is refused can arise.
 use Rattle.std.proofs.Common.{◌≡◌, ℕ, suc, ◌≤◌, true, List, [], ◌∷◌, length, ℤ, Some, None, Ok, Err, Option, Result, sym, refl, ap, ◌∙◌, subst, arith}
-use Rattle.std.specs.List.{AllByRecursion as All}
+use Rattle.std.specs.List.{AllByRecursion}
 use Rattle.std.proofs.lemmas.Bool.{and_from, and_parts, cond-true, eq-eqb, eqb-true, le-leb, leb-true}
 use Rattle.refusals.specs.declared.Refusal.{Refusal}
 use Rattle.registers.specs.Kind.{Rule}
@@ -16,7 +16,7 @@ use Rattle.replay.specs.Told.{Told, is_made, size_told}
 use Rattle.replay.specs.declared.header.Header.{Header}
 
 -- Where all moves are within the limits, none is outside them.
-none_outside : (n : ℕ) (moves : List ℤ) → All InRange moves → first_outside n moves ≡ None
+none_outside : (n : ℕ) (moves : List ℤ) → AllByRecursion InRange moves → first_outside n moves ≡ None
 unfolding first_outside
 none_outside n [] all = refl
 none_outside n (move ∷ moves) all = cond-true _ _ _ (le-leb _ _ all.0) ∙ none_outside (suc n) moves all.1

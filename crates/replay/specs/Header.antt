@@ -1,6 +1,6 @@
 -- What is kept of a journal's header while it is read.
 use Rattle.std.specs.Prelude.{◌≡◌, ℕ, ◌≤◌, true, false, List, [], length, take, ℤ, Ok, Err, Result}
-use Rattle.std.specs.List.{AllByRecursion as All}
+use Rattle.std.specs.List.{AllByRecursion}
 use Rattle.refusals.specs.declared.Refusal.{Refusal}
 use Rattle.registers.specs.Kind.{Rule}
 use Rattle.registers.specs.Taken.{InRange}
@@ -23,7 +23,7 @@ pub record Heads (h : Header) (t : Told) : Type 0 where
   pub few_kills : t.kills ≤ 7
   pub some_cards : 1 ≤ t.cards
   pub few_cards : t.cards ≤ 8
-  pub in_range : All InRange t.moves
+  pub in_range : AllByRecursion InRange t.moves
   pub no_calls : t.calls ≡ []
 
 -- After one more line: the record holds what is told then; or the line is refused for the same reason.

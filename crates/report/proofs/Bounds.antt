@@ -3,7 +3,7 @@ use Rattle.std.proofs.Common.{◌≡◌, ℕ, ◌+◌, ◌*◌, ◌^◌, ◌<◌
 use lib.Signed.{mag}
 use Rattle.std.proofs.lemmas.Fmt.{length-decimal-le, length_signed_le}
 use Rattle.std.proofs.lemmas.List.{length-append}
-use Rattle.std.specs.List.{flat_map, AllByRecursion as All}
+use Rattle.std.specs.List.{flat_map, AllByRecursion}
 use Rattle.std.specs.Fmt.{signed_decimal}
 use Rattle.registers.specs.Kind.{Fits64}
 use Rattle.report.specs.Figures.{figure_after_comma, figures_text}
@@ -36,7 +36,7 @@ length_signed_line key z h =
     omega arith
 
 -- Each figure after the first adds a comma and its own text.
-length_after_commas : (zs : List ℤ) → All Fits64 zs → length (flat_map figure_after_comma zs) ≤ 21 * length zs
+length_after_commas : (zs : List ℤ) → AllByRecursion Fits64 zs → length (flat_map figure_after_comma zs) ≤ 21 * length zs
 length_after_commas [] h = omega arith
 length_after_commas (z ∷ zs) (h, hs) =
     let one : length (signed_decimal z) ≤ 20 = length_signed z h in
@@ -45,6 +45,6 @@ length_after_commas (z ∷ zs) (h, hs) =
     omega arith
 
 -- The text of figures that each fit 64 bits has at most 21 bytes for each of them.
-pub length_figures : (zs : List ℤ) → All Fits64 zs → length (figures_text zs) ≤ 21 * length zs
+pub length_figures : (zs : List ℤ) → AllByRecursion Fits64 zs → length (figures_text zs) ≤ 21 * length zs
 length_figures [] h = omega arith
 length_figures (z ∷ zs) h = omega (arith, length_after_commas (z ∷ zs) h)
