@@ -1,5 +1,5 @@
 -- A look on tables that fit, and one on tables that do not.
-use Rattle.std.proofs.Common.{◌≡◌, ℕ, true, false, List, ℤ, Ok, Err, Result, sym, refl, ap, ◌∙◌, subst}
+use Rattle.std.proofs.Common.{◌≡◌, ℕ, true, false, List, ℤ, Ok, Err, sym, ap, ◌∙◌, subst}
 use Rattle.std.proofs.lemmas.Bool.{both_ways, cond-false, cond-true}
 use Rattle.refusals.specs.declared.Refusal.TheVariants.{TablesMisfit}
 use Rattle.registers.specs.Kind.{Rule}
@@ -13,7 +13,7 @@ use Rattle.hub_runs.specs.Hubs.{Size, State, backup_card, master_card}
 use Rattle.hub_runs.specs.Law.{Commutes}
 use Rattle.hub_runs.specs.Runs.{count_done, last_backup, last_master, look_call, seen}
 use Rattle.hub_runs.proofs.GoingOn.{fits_in_run, look_goes_on}
-use Rattle.hub.specs.Looking.{as_seen, Looks, look_reply, the_look}
+use Rattle.hub.specs.Looking.{as_seen, Looks, the_look}
 
 -- The parts of a look.
 pub all_seen : (s : State) (done : ℕ) (m : MasterNumber) (mv : ℕ) (b : BackupNumber) (bv : ℕ) → done ≡ count_done s.clients → m.0 ≡ last_master s → mv ≡ (master_card s (last_master s)).version → b.0 ≡ last_backup s → bv ≡ (backup_card s (last_backup s)).version

@@ -1,5 +1,5 @@
 -- What a list of calls does: the tables, the figures and the answers are a run's, and all that is promised of runs holds.
-use Rattle.std.specs.Prelude.{◌≡◌, ℕ, cond, not, ◌&&◌, List, ◌++◌, map, length, ℤ, Some, None, Err, Option, Result, MatchResult, ◌==◌}
+use Rattle.std.specs.Prelude.{◌≡◌, cond, not, ◌&&◌, List, ◌++◌, map, length, ℤ, Some, None, Err, Option, Result, MatchResult, ◌==◌}
 use Rattle.refusals.specs.declared.Refusal.{Refusal}
 use Rattle.refusals.specs.declared.Refusal.TheVariants.{WrongTableLength}
 use Rattle.registers.specs.Kind.{Rule}

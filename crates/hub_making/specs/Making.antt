@@ -4,10 +4,6 @@ use Rattle.registers.specs.Kind.{Rule}
 use Rattle.refusals.specs.declared.Refusal.{Refusal}
 use Rattle.refusals.specs.declared.Refusal.TheVariants.{CountOutsideLimits, WrongTableLength, MoveOutsideLimits}
 use Rattle.hub_tables.specs.Fit.{lengths_fit}
-use Rattle.hub_cards.specs.declared.BackupNumber.{BackupNumber}
-use Rattle.hub_cards.specs.declared.Card.{Card}
-use Rattle.hub_cards.specs.declared.MasterNumber.{MasterNumber}
-use Rattle.hub_records.specs.declared.commands.Command.{Command}
 use Rattle.hub_records.specs.declared.hub.ExecState.TheVariants.{Running}
 use Rattle.hub_records.specs.declared.hub.Hub.{Hub}
 use Rattle.hub_runs.specs.Hubs.{Size}

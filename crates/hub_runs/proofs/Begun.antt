@@ -1,19 +1,17 @@
 -- A hub that was just made is fine.
-use Rattle.std.proofs.Common.{◌≡◌, ℕ, zero, suc, ◌+◌, ◌-◌, ◌*◌, ◌<◌, ◌≤◌, Bool, true, false, ◌&&◌, ◌≢◌, List, [], ◌∷◌, map, length, get_or, replicate, ℤ, sym, refl, ap, ◌∙◌, subst, suc-mul, zero-mul, arith}
+use Rattle.std.proofs.Common.{◌≡◌, ℕ, zero, suc, ◌+◌, ◌-◌, ◌*◌, ◌≤◌, false, ◌≢◌, List, [], ◌∷◌, map, length, get_or, replicate, ℤ, sym, refl, ap, ◌∙◌, suc-mul, zero-mul, arith}
 use lib.ListN.{length-map, length-replicate}
 use Rattle.hub_records.specs.Commands.{the_backup, the_master}
 use Rattle.hub_cards.specs.Tables.{at, blank_card}
-use Rattle.hub_records.specs.declared.commands.Command.{Command}
 use Rattle.hub_records.specs.declared.commands.Phase.TheVariants.{Pending, GaveUp}
-use Rattle.hub_records.specs.declared.hub.ExecState.TheVariants.{Running, Success, Fatal}
-use Rattle.hub_runs.specs.Hubs.{Size, State, blank_client, all_done}
+use Rattle.hub_runs.specs.Hubs.{Size, blank_client, all_done}
 use Rattle.hub_runs.specs.Promises.{times}
 use Rattle.hub_runs.specs.Runs.{Limits, fresh, first_card, made, begun}
 use Rattle.hub_runs.proofs.Rows.{Cards}
-use Rattle.hub_runs.proofs.Clients.{Around, RowAt, Rows, total}
+use Rattle.hub_runs.proofs.Clients.{Around, Rows, total}
 use Rattle.hub_runs.proofs.Roles.{first_role}
 use Rattle.hub_runs.proofs.Tidy.{tidy_first, empty_lists}
-use Rattle.hub_runs.proofs.Fine.{Exec, Carded, around, Fine}
+use Rattle.hub_runs.proofs.Fine.{Fine}
 
 -- No losses, and card 1 of each role is active.
 abbrev at_first : ℕ → Cards

@@ -1,25 +1,24 @@
 -- Each action of the cards alone leaves the hub fine.
-use Rattle.std.proofs.Common.{◌≡◌, ℕ, ◌+◌, ◌-◌, ◌*◌, ◌<◌, ◌≤◌, Bool, true, false, ltb, leb, List, [], ◌∷◌, length, Some, None, Option, sym, refl, ap, ◌∙◌, subst, arith}
-use Rattle.std.proofs.lemmas.Bool.{leb-true, ltb-true}
+use Rattle.std.proofs.Common.{◌≡◌, ℕ, ◌+◌, ◌<◌, ◌≤◌, List, [], length, Some, Option, refl, ap, ◌∙◌, arith}
+use Rattle.std.proofs.lemmas.Bool.{leb-true}
 use Rattle.registers.specs.Kind.{Rule}
 use Rattle.actions.specs.declared.Action.TheVariants.{CreatingNewBackup, CreatingNewMaster, KillingMaster, KillingBackup}
 use Rattle.hub_records.specs.Commands.{the_backup, the_master}
 use Rattle.hub_tables.specs.Search.{active_card, last_lost}
 use Rattle.hub_cards.specs.Tables.{at, put}
-use Rattle.hub_records.specs.declared.commands.Command.{Command}
 use Rattle.hub_runs.specs.Hubs.{Size, State, master_card, backup_card, new_backup, new_master, master_lost, backup_lost}
 use Rattle.hub_runs.specs.Judging.{carried_out}
 use Rattle.hub_runs.specs.Promises.{times}
 use Rattle.hub_runs.specs.Runs.{Lists, number, lists_after}
 use Rattle.hub_runs.proofs.Keeping.{Keeps, guard_keeps, with_card_keeps, by_card_keeps}
 use Rattle.hub_runs.proofs.Rows.{Cards, made_backup, made_master, lost_master, lost_backup, backup_made_stays, backup_made_known, master_made_stays, master_made_known, master_lost_stays, master_lost_known, backup_lost_stays, backup_lost_known}
-use Rattle.hub_runs.proofs.Clients.{Around, RowAt, weight_of, Framed}
+use Rattle.hub_runs.proofs.Clients.{Around}
 use Rattle.hub_runs.proofs.Roles.{found_active, none_active, found_lost, role_fits}
 use Rattle.hub_runs.proofs.Places.{at_put_same, length-put}
 use Rattle.hub_runs.proofs.Tidy.{tidy_put}
 use Rattle.hub_runs.proofs.Moving.{row_with, moves_cards}
 use Rattle.hub_runs.proofs.Changing.{carded_master_lost, carded_backup_lost, carded_backup_made, carded_master_made}
-use Rattle.hub_runs.proofs.Fine.{Carded, Listed, around, Fine}
+use Rattle.hub_runs.proofs.Fine.{around, Fine}
 
 -- The list of a new card is its maker's.
 new_list : (lists other : List (List ℕ)) (lost_card maker_card : Option ℕ) (lost maker place last : ℕ) → lost_card ≡ Some lost → maker_card ≡ Some maker → lost + 1 ≡ place → maker ≡ last → place ≤ length lists → at [] (put lists (number lost_card + 1) (at [] other (number maker_card))) place ≡ at [] other last

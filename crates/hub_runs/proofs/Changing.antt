@@ -1,5 +1,5 @@
 -- Cards are lost and made.
-use Rattle.std.proofs.Common.{◌≡◌, ℕ, ◌+◌, ◌<◌, ◌≤◌, ◌≢◌, List, [], ◌∷◌, length, sym, refl, ap, ◌∙◌, subst, arith}
+use Rattle.std.proofs.Common.{◌≡◌, ℕ, ◌+◌, ◌<◌, ◌≤◌, List, length, sym, refl, ap, ◌∙◌, arith}
 use Rattle.hub_records.specs.Commands.{the_backup, the_master}
 use Rattle.hub_cards.specs.Tables.{at, put, blank_card}
 use Rattle.hub_cards.specs.declared.BackupNumber.{BackupNumber}
@@ -7,7 +7,7 @@ use Rattle.hub_cards.specs.declared.Card.{Card}
 use Rattle.hub_cards.specs.declared.MasterNumber.{MasterNumber}
 use Rattle.hub_cards.specs.declared.Status.TheVariants.{Active, Lost}
 use Rattle.hub_runs.specs.Hubs.{Size, has_status, has_partner}
-use Rattle.hub_runs.proofs.Rows.{Cards, Sane, made_backup, made_master, lost_master, lost_backup}
+use Rattle.hub_runs.proofs.Rows.{Cards, made_backup, made_master, lost_master, lost_backup}
 use Rattle.hub_runs.proofs.Roles.{Role, role_put, code, shape, shape_lost, shape_new, one_shape, two_shape}
 use Rattle.hub_runs.proofs.Places.{at_put_same, length-put}
 use Rattle.hub_runs.proofs.Fine.{Carded, master_at, backup_at}

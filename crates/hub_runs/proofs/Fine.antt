@@ -1,21 +1,19 @@
 -- What holds of a hub and its lists at every moment of a run.
-use Rattle.std.proofs.Common.{◌≡◌, ℕ, zero, suc, ◌+◌, ◌-◌, ◌*◌, ◌<◌, ◌≤◌, Bool, true, false, cond, ◌&&◌, ◌≢◌, List, [], ◌∷◌, length, get_or, sym, refl, ap, ◌∙◌, subst, inl, inr, ⊎_elim, arith}
-use Rattle.std.proofs.lemmas.Bool.{cases_eq, cases_Bool, cond-true, cond-false, and_left, and_right}
+use Rattle.std.proofs.Common.{◌≡◌, ℕ, zero, suc, ◌+◌, ◌-◌, ◌*◌, ◌<◌, ◌≤◌, Bool, true, false, cond, ◌≢◌, List, [], ◌∷◌, length, get_or, sym, refl, ap, ◌∙◌, ⊎_elim, arith}
+use Rattle.std.proofs.lemmas.Bool.{cases_eq, and_left, and_right}
 use Rattle.hub_records.specs.Commands.{is_done, the_backup, the_master}
 use Rattle.hub_cards.specs.Tables.{at, put, blank_card}
 use Rattle.hub_cards.specs.declared.BackupNumber.{BackupNumber}
 use Rattle.hub_cards.specs.declared.Card.{Card}
 use Rattle.hub_cards.specs.declared.MasterNumber.{MasterNumber}
 use Rattle.hub_records.specs.declared.commands.Command.{Command}
-use Rattle.hub_records.specs.declared.commands.Phase.{Phase}
-use Rattle.hub_records.specs.declared.commands.Phase.TheVariants.{Pending, Working, Done, GaveUp}
+use Rattle.hub_records.specs.declared.commands.Phase.TheVariants.{GaveUp}
 use Rattle.hub_records.specs.declared.hub.ExecState.{ExecState}
 use Rattle.hub_records.specs.declared.hub.ExecState.TheVariants.{Running, Success, Fatal}
-use Rattle.hub_runs.specs.Hubs.{Size, State, blank_client, client, all_done}
-use Rattle.hub_runs.specs.Promises.{times}
+use Rattle.hub_runs.specs.Hubs.{Size, State, blank_client, all_done}
 use Rattle.hub_runs.specs.Runs.{Lists}
 use Rattle.hub_runs.proofs.Rows.{Cards, Sane}
-use Rattle.hub_runs.proofs.Clients.{Around, RowAt, Rows, total, weight_of, Framed, command_comes}
+use Rattle.hub_runs.proofs.Clients.{Around, Rows, total}
 use Rattle.hub_runs.proofs.Roles.{Role}
 use Rattle.hub_runs.proofs.Places.{at_put_same, at_put_other, length-put}
 use Rattle.hub_runs.proofs.Tidy.{Tidy}

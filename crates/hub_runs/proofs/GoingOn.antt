@@ -1,16 +1,13 @@
 -- A call takes every run on.
-use Rattle.std.proofs.Common.{◌≡◌, ℕ, true, cond, List, [], ◌∷◌, ◌++◌, ℤ, Some, fold, sym, refl, ap, ◌∙◌, subst, arith}
+use Rattle.std.proofs.Common.{◌≡◌, ℕ, true, List, [], ◌∷◌, ◌++◌, ℤ, sym, refl, ap, ◌∙◌, subst, arith}
 use Rattle.std.proofs.lemmas.List.Sums.{fold_push}
 use Rattle.std.proofs.lemmas.Bool.{cond-true}
 use Rattle.registers.specs.Kind.{Rule}
-use Rattle.actions.specs.Letters.{action_of}
-use Rattle.actions.specs.declared.Action.{Action}
 use Rattle.hub_runs.specs.Fits.{state_fits, step_answer}
 use Rattle.hub_runs.specs.GoingOn.{AfterCalls, ByTheModule, GoesOn, Outcome}
 use Rattle.hub_runs.specs.Hubs.{Size, State}
 use Rattle.hub_runs.specs.Judging.{Answer, denied, moved, step}
 use Rattle.hub_runs.specs.Law.{Commutes}
-use Rattle.hub_runs.specs.Module.{Next}
 use Rattle.hub_runs.specs.Runs.{Limits, Call, step_call, look_call, Reply, stepped, refused, seen, Run, look_at, after_answer, after, made, begun, run_of}
 use Rattle.hub_runs.proofs.OfModule.{steps_are_the_modules}
 use Rattle.hub_runs.proofs.Promised.{every_run_keeps_its_promises}

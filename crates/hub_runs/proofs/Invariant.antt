@@ -1,17 +1,15 @@
 -- Every run is fine: at its beginning, and after each step that is not denied.
-use Rattle.std.proofs.Common.{◌≡◌, ℕ, zero, suc, ◌+◌, ◌-◌, ◌*◌, ◌<◌, ◌≤◌, Bool, true, false, cond, ◌&&◌, eqb, ltb, leb, List, [], ◌∷◌, map, length, replicate, ℤ, sym, refl, ap, ◌∙◌, subst, arith}
-use lib.ListN.{length-map, length-replicate}
+use Rattle.std.proofs.Common.{◌≡◌, ℕ, ◌≤◌, true, ◌&&◌, leb, refl, arith}
 use Rattle.std.proofs.lemmas.Bool.{and_parts, leb-true, ltb-true}
 use Rattle.registers.specs.Kind.{Rule}
 use Rattle.actions.specs.declared.Action.{Action}
 use Rattle.actions.specs.declared.Action.TheVariants.{Starting, MasterDoing, HandlingMasterDone, BackupDoing, DetectingOldMasterId, HandlingBackupDone, HandlingMasterDoFailed, HandlingBackupDoFailed, GettingNewBackup, GettingNewMaster, HandlingBackupGetNewMasterFailed, HandlingMasterGetNewBackupFailed, UpdatingBackupId, UpdatingMasterId, CreatingNewBackup, CreatingNewMaster, KillingMaster, KillingBackup}
-use Rattle.hub_records.specs.Commands.{backup_in, master_in}
 use Rattle.hub_records.specs.declared.hub.ExecState.{ExecState}
 use Rattle.hub_records.specs.declared.hub.ExecState.TheVariants.{Running, Success, Fatal}
-use Rattle.hub_runs.specs.Hubs.{Size, State, client}
-use Rattle.hub_runs.specs.Judging.{guard, is_running, judged}
-use Rattle.hub_runs.specs.Runs.{Limits, Call, Lists, Run, lists_after, fresh, made, begun, run_of}
-use Rattle.hub_runs.proofs.Keeping.{Keeps, guard_keeps, run_keeps}
+use Rattle.hub_runs.specs.Hubs.{Size, State}
+use Rattle.hub_runs.specs.Judging.{is_running, judged}
+use Rattle.hub_runs.specs.Runs.{Lists, lists_after}
+use Rattle.hub_runs.proofs.Keeping.{Keeps, guard_keeps}
 use Rattle.hub_runs.proofs.Fine.{Fine}
 use Rattle.hub_runs.proofs.Steps as steps
 use Rattle.hub_runs.proofs.CardSteps as card_steps

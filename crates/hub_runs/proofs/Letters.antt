@@ -1,12 +1,12 @@
 -- The command that a step is about: each letter leads from the row of its message to the row of the next,
 -- and its weight falls.
-use Rattle.std.proofs.Common.{◌≡◌, ℕ, ◌+◌, ◌-◌, ◌<◌, ◌≤◌, Some, None, Option, refl, arith}
+use Rattle.std.proofs.Common.{◌≡◌, ℕ, ◌+◌, ◌≤◌, Some, None, Option, refl, arith}
 use Rattle.hub_records.specs.Commands.{the_backup, the_master}
 use Rattle.hub_records.specs.declared.commands.Message.{Message}
 use Rattle.hub_records.specs.declared.commands.Message.TheVariants.{MasterDo, MasterDone, BackupDo, BackupDone, MasterGetNewBackup, BackupGetNewMaster, NewBackupId, NewMasterId}
 use Rattle.hub_records.specs.declared.commands.Phase.{Phase}
 use Rattle.hub_records.specs.declared.commands.Phase.TheVariants.{Pending, Working, Done, GaveUp}
-use Rattle.hub_runs.proofs.Rows.{Cards, Sane, Between, Row, Known, weight}
+use Rattle.hub_runs.proofs.Rows.{Cards, Sane, Row, Known, weight}
 
 -- Where the command comes to, with what it then knows and how often the last lists then hold it.
 pub record Comes (a : Cards) (phase : Phase) (msg : Option Message) (om ob mc bc : ℕ) (before : ℕ) : Type 0 where

@@ -1,6 +1,6 @@
 -- Which message a client holds, once it is known that an action is for it.
-use Rattle.std.proofs.Common.{◌≡◌, ℕ, Bool, true, false, cond, eqb, List, [], ◌∷◌, get_or, Some, None, Option, sym, refl, ap, ◌∙◌, inl, inr, arith}
-use Rattle.std.proofs.lemmas.Bool.{cases_Bool, cond-true, cond-false, eqb-true}
+use Rattle.std.proofs.Common.{◌≡◌, ℕ, true, eqb, List, [], ◌∷◌, get_or, Some, None, Option, sym, refl, ap, ◌∙◌, inl, inr}
+use Rattle.std.proofs.lemmas.Bool.{cases_Bool, cond-false, eqb-true}
 use Rattle.actions.specs.Letters.{place_of}
 use Rattle.actions.specs.declared.Action.{Action}
 use Rattle.hub_records.specs.Commands.{actions_for, backup_in, is_among, master_in, the_backup, the_master}

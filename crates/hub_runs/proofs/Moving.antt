@@ -1,21 +1,15 @@
 -- A step of one command: it comes to its next row, and all else stays fine.
-use Rattle.std.proofs.Common.{◌≡◌, ℕ, ◌+◌, ◌-◌, ◌*◌, ◌<◌, ◌≤◌, ◌≢◌, List, [], ◌∷◌, ◌++◌, length, sym, refl, ap, ◌∙◌, subst, arith}
-use Rattle.hub_records.specs.Commands.{the_backup, the_master}
-use Rattle.hub_cards.specs.Tables.{at, put, blank_card}
-use Rattle.hub_cards.specs.declared.BackupNumber.{BackupNumber}
-use Rattle.hub_cards.specs.declared.Card.{Card}
-use Rattle.hub_cards.specs.declared.MasterNumber.{MasterNumber}
+use Rattle.std.proofs.Common.{◌≡◌, ℕ, ◌+◌, ◌-◌, ◌*◌, ◌≤◌, ◌≢◌, List, length, sym, ap, ◌∙◌, subst, arith}
+use Rattle.hub_cards.specs.Tables.{put}
 use Rattle.hub_records.specs.declared.commands.Command.{Command}
-use Rattle.hub_runs.specs.Hubs.{Size, State, blank_client, client, has_taken}
+use Rattle.hub_runs.specs.Hubs.{Size, State, client}
 use Rattle.hub_runs.specs.Promises.{times}
-use Rattle.hub_runs.specs.Runs.{Lists, appended}
-use Rattle.hub_runs.proofs.Rows.{Cards, Row, Known, weight}
+use Rattle.hub_runs.specs.Runs.{Lists}
+use Rattle.hub_runs.proofs.Rows.{Cards, Row, Known}
 use Rattle.hub_runs.proofs.Letters.{Comes}
-use Rattle.hub_runs.proofs.Clients.{Around, RowAt, Rows, total, weight_of, Framed, all_framed, command_comes}
-use Rattle.hub_runs.proofs.Roles.{Role, role_put}
-use Rattle.hub_runs.proofs.Places.{at_put_same, at_put_other, length-put}
-use Rattle.hub_runs.proofs.Times.{times-append, times_one, times_none}
-use Rattle.hub_runs.proofs.Fine.{Exec, Carded, Listed, around, hub_weight, most_steps, Fine, master_at, backup_at}
+use Rattle.hub_runs.proofs.Clients.{RowAt, Rows, total, weight_of, Framed, all_framed, command_comes}
+use Rattle.hub_runs.proofs.Places.{length-put}
+use Rattle.hub_runs.proofs.Fine.{Exec, Carded, Listed, around, hub_weight, most_steps, Fine}
 
 -- A row speaks of the lists only by how often they hold the command.
 pub row_with : (a : Cards) (d : ℕ) (x : Command) (ml bl : List ℕ) (mc bc : ℕ) → times d ml ≡ mc → times d bl ≡ bc → Row a x.phase x.message x.own_master.0 x.own_backup.0 mc bc → Known a x.own_master.0 x.own_backup.0 mc bc → RowAt (record { cards = a; of_master = ml; of_backup = bl }) d x

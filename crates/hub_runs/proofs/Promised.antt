@@ -1,5 +1,5 @@
 -- From what holds at every moment of a run to what is promised of runs.
-use Rattle.std.proofs.Common.{◌≡◌, ℕ, zero, suc, ◌+◌, ◌*◌, ◌<◌, ◌≤◌, Bool, true, false, cond, ◌&&◌, ◌⊎◌, List, [], ◌∷◌, length, get_or, ℤ, Some, None, fold, Option, sym, refl, ap, ◌∙◌, subst, inl, inr, ⊎_elim, arith}
+use Rattle.std.proofs.Common.{◌≡◌, ℕ, zero, suc, ◌+◌, ◌*◌, ◌<◌, ◌≤◌, true, ◌⊎◌, List, [], ◌∷◌, length, get_or, ℤ, Some, None, fold, Option, sym, refl, ap, ◌∙◌, subst, inl, inr, ⊎_elim, arith}
 use Rattle.std.proofs.lemmas.Bool.{and_parts, cases_eq}
 use Rattle.registers.specs.Kind.{Rule}
 use Rattle.hub_records.specs.Commands.{is_done, the_backup, the_master}
@@ -12,13 +12,12 @@ use Rattle.hub_records.specs.declared.commands.Command.{Command}
 use Rattle.hub_records.specs.declared.commands.Message.{Message}
 use Rattle.hub_records.specs.declared.commands.Phase.{Phase}
 use Rattle.hub_records.specs.declared.commands.Phase.TheVariants.{Pending, Working, Done, GaveUp}
-use Rattle.hub_records.specs.declared.hub.ExecState.TheVariants.{Running, Success, Fatal}
+use Rattle.hub_records.specs.declared.hub.ExecState.TheVariants.{Success, Fatal}
 use Rattle.hub_runs.specs.Hubs.{Size, State, blank_client, client, master_card, backup_card, all_done}
-use Rattle.hub_runs.specs.Judging.{step, moved}
 use Rattle.hub_runs.specs.Law.{Commutes}
 use Rattle.hub_runs.specs.EachRun.{EveryRunKeepsItsPromises}
-use Rattle.hub_runs.specs.Promises.{times, Holds, NoRepeats, Counted, figures_of, master_list, backup_list, NoCommandIsTakenTwice, DoneCommandsAreInBothLastLists, SuccessCountsEveryCommand, AtMostOneCardOfARoleIsActive, FatalMeansBothCardsOfACommandAreGone, StepsAreCountedAndBounded, SomeStepIsOpen}
-use Rattle.hub_runs.specs.Runs.{Limits, Call, Run, last_master, last_backup, number, run_of}
+use Rattle.hub_runs.specs.Promises.{times, Holds, Counted, figures_of, master_list, backup_list, NoCommandIsTakenTwice, DoneCommandsAreInBothLastLists, SuccessCountsEveryCommand, AtMostOneCardOfARoleIsActive, FatalMeansBothCardsOfACommandAreGone, StepsAreCountedAndBounded, SomeStepIsOpen}
+use Rattle.hub_runs.specs.Runs.{Limits, Call, Run, last_master, last_backup, run_of}
 use Rattle.hub_runs.proofs.Keeping.{run_keeps}
 use Rattle.hub_runs.proofs.Rows.{Cards, Row}
 use Rattle.hub_runs.proofs.Clients.{RowAt, row_of}

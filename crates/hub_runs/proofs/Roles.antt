@@ -1,16 +1,16 @@
 -- The cards of a role in numbers: those up to l are lost, then there is the active one, if any, and the others are unused.
 -- One set of lemmas serves masters and backups.
-use Rattle.std.proofs.Common.{◌≡◌, ℕ, zero, suc, ◌+◌, ◌-◌, ◌<◌, ◌≤◌, Bool, true, false, cond, ltb, ◌≢◌, List, [], ◌∷◌, length, get_or, replicate, Some, None, Option, sym, refl, ap, ◌∙◌, ⊎_elim, arith}
+use Rattle.std.proofs.Common.{◌≡◌, ℕ, zero, suc, ◌+◌, ◌-◌, ◌<◌, ◌≤◌, true, false, cond, ltb, ◌≢◌, List, length, get_or, replicate, Some, None, Option, sym, refl, ap, ◌∙◌, ⊎_elim, arith}
 use Rattle.std.proofs.lemmas.Bool.{cases_eq, cases_lt}
 use Rattle.std.proofs.lemmas.Bool.Decides.{nat_tests}
 use Rattle.hub_cards.specs.Statuses.{is_active, is_lost, is_used}
 use Rattle.hub_tables.specs.Search.{active_card, last_lost, last_card}
 use Rattle.hub_tables.specs.SearchLaws.{status_at}
-use Rattle.hub_cards.specs.Tables.{at, put, blank_card}
+use Rattle.hub_cards.specs.Tables.{put, blank_card}
 use Rattle.hub_cards.specs.declared.Card.{Card}
 use Rattle.hub_cards.specs.declared.Status.{Status}
 use Rattle.hub_cards.specs.declared.Status.TheVariants.{Unused, Active, Lost}
-use Rattle.hub_tables.proofs.Searches.{active_card_is, active_card_none, last_lost_is, last_lost_none, last_lost_highest, last_card_is, last_card_none, last_card_highest}
+use Rattle.hub_tables.proofs.Searches.{active_card_is, active_card_none, last_lost_is, last_lost_highest, last_card_is, last_card_none, last_card_highest}
 use Rattle.hub_runs.specs.Runs.{number, first_card}
 use Rattle.hub_runs.proofs.Places.{at_put_same, at_put_other, at_past}
 

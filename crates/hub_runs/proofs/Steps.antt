@@ -1,13 +1,11 @@
 -- Each action of a command leaves the hub fine.
-use Rattle.std.proofs.Common.{◌≡◌, ℕ, ◌+◌, ◌<◌, ◌≤◌, Bool, true, false, cond, not, eqb, ◌≢◌, List, [], ◌∷◌, ◌++◌, length, Some, None, Option, sym, refl, ap, ◌∙◌, subst, arith}
+use Rattle.std.proofs.Common.{◌≡◌, ℕ, ◌+◌, ◌≤◌, true, false, cond, not, eqb, ◌≢◌, [], length, Some, None, Option, sym, refl, ap, ◌∙◌, subst, arith}
 use Rattle.std.proofs.lemmas.Bool.{eqb-true, eqb-false, not-true}
 use Rattle.registers.specs.Kind.{Rule}
-use Rattle.actions.specs.declared.Action.{Action}
 use Rattle.actions.specs.declared.Action.TheVariants.{Starting, MasterDoing, HandlingMasterDone, BackupDoing, DetectingOldMasterId, HandlingBackupDone, HandlingMasterDoFailed, HandlingBackupDoFailed, GettingNewBackup, GettingNewMaster, HandlingBackupGetNewMasterFailed, HandlingMasterGetNewBackupFailed, UpdatingBackupId, UpdatingMasterId}
 use Rattle.hub_records.specs.Commands.{actions_for, backup_in, is_among, is_done, is_pending, knows_backup, knows_master, master_in, rests, the_backup, the_master, waits}
 use Rattle.hub_cards.specs.Statuses.{is_active, is_lost}
-use Rattle.hub_tables.specs.Search.{active_card}
-use Rattle.hub_cards.specs.Tables.{at, put, blank_card}
+use Rattle.hub_cards.specs.Tables.{at, put}
 use Rattle.hub_records.specs.declared.commands.Command.{Command}
 use Rattle.hub_records.specs.declared.commands.Message.{Message}
 use Rattle.hub_records.specs.declared.commands.Message.TheVariants.{MasterDo, MasterDone, BackupDo, BackupDone, MasterGetNewBackup, BackupGetNewMaster, NewBackupId, NewMasterId}
@@ -15,12 +13,12 @@ use Rattle.hub_records.specs.declared.commands.Phase.{Phase}
 use Rattle.hub_records.specs.declared.commands.Phase.TheVariants.{Pending, Working, Done, GaveUp}
 use Rattle.hub_records.specs.declared.hub.ExecState.{ExecState}
 use Rattle.hub_records.specs.declared.hub.ExecState.TheVariants.{Running, Success, Fatal}
-use Rattle.hub_runs.specs.Hubs.{Size, State, client, master_card, backup_card, backup_of, master_of, with_client, with_exec, completed, given_up, master_takes, backup_takes, all_done}
+use Rattle.hub_runs.specs.Hubs.{Size, State, client, master_card, backup_card, backup_of, master_of, with_client, with_exec, given_up, master_takes, backup_takes, all_done}
 use Rattle.hub_runs.specs.Judging.{carried_out}
 use Rattle.hub_runs.specs.Promises.{times}
 use Rattle.hub_runs.specs.Runs.{Lists, appended, lists_after}
 use Rattle.hub_runs.proofs.Keeping.{Keeps, guard_keeps, by_card_keeps}
-use Rattle.hub_runs.proofs.Rows.{Cards, Row, Known, weight}
+use Rattle.hub_runs.proofs.Rows.{Cards, Row, weight}
 use Rattle.hub_runs.proofs.Letters.{Comes, starts, master_does, hands_on, not_taken_yet, backup_does, detects, finishes, asks_backup, gives_up_at_master, asks_master, gets_backup, gets_master, finds_master, gives_up_at_backup, gives_up_between, learns_backup, learns_master}
 use Rattle.hub_runs.proofs.Clients.{Around, RowAt, weight_of, row_of, row_working, row_pending}
 use Rattle.hub_runs.proofs.Roles.{active_is, lost_is, found_active, none_active, role_fits}
@@ -28,7 +26,7 @@ use Rattle.hub_runs.proofs.Messages.{message_is}
 use Rattle.hub_runs.proofs.Times.{times_one, times_none}
 use Rattle.hub_runs.proofs.Taking.{list_grows, master_taken, backup_taken, master_listed, backup_listed}
 use Rattle.hub_runs.proofs.Moving.{moves_command, in_table}
-use Rattle.hub_runs.proofs.Fine.{Exec, Carded, around, Fine, goes_on, is_finished, is_fatal}
+use Rattle.hub_runs.proofs.Fine.{Exec, around, Fine, goes_on, is_finished, is_fatal}
 
 working_calm : Working ≢ GaveUp
 working_calm h = let z : ◌≡◌ {A = ℕ} 0 1 = cc in omega arith

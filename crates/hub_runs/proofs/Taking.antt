@@ -1,5 +1,5 @@
 -- The active card of a role takes a command: its version and its list grow, and it stays what it is.
-use Rattle.std.proofs.Common.{◌≡◌, ℕ, ◌+◌, ◌≤◌, ◌≢◌, List, [], ◌∷◌, ◌++◌, length, sym, refl, ap, ◌∙◌, subst, arith}
+use Rattle.std.proofs.Common.{◌≡◌, ℕ, ◌+◌, ◌≤◌, List, [], ◌∷◌, ◌++◌, length, refl, ap, ◌∙◌}
 use Rattle.hub_records.specs.Commands.{the_backup, the_master}
 use Rattle.hub_cards.specs.Tables.{at, put, blank_card}
 use Rattle.hub_cards.specs.declared.BackupNumber.{BackupNumber}
@@ -9,10 +9,10 @@ use Rattle.hub_runs.specs.Hubs.{Size, has_taken}
 use Rattle.hub_runs.specs.Promises.{times}
 use Rattle.hub_runs.specs.Runs.{Lists, appended}
 use Rattle.hub_runs.proofs.Rows.{Cards}
-use Rattle.hub_runs.proofs.Roles.{Role, role_put, code, shape}
+use Rattle.hub_runs.proofs.Roles.{Role, role_put}
 use Rattle.hub_runs.proofs.Places.{at_put_same, length-put, at_put_like}
 use Rattle.hub_runs.proofs.Tidy.{tidy_appended}
-use Rattle.hub_runs.proofs.Times.{times-append, times_one, times_none}
+use Rattle.hub_runs.proofs.Times.{times-append}
 use Rattle.hub_runs.proofs.Fine.{Carded, Listed, master_at, backup_at}
 
 -- The role has the same shape as before.

@@ -1,6 +1,6 @@
 -- The tables of every run fit together: card numbers stay within the card places, only working commands hold a message,
 -- and no version exceeds the number of steps, which is bounded.
-use Rattle.std.proofs.Common.{◌≡◌, ℕ, zero, suc, ◌+◌, ◌-◌, ◌*◌, ◌<◌, ◌≤◌, Bool, true, false, cond, ◌&&◌, List, [], ◌∷◌, map, length, get_or, set, replicate, ℤ, nat_abs, Some, None, Option, sym, refl, ap, ◌∙◌, mul-le-mul, arith}
+use Rattle.std.proofs.Common.{◌≡◌, ℕ, zero, suc, ◌+◌, ◌-◌, ◌*◌, ◌<◌, ◌≤◌, Bool, true, List, [], ◌∷◌, map, length, get_or, set, replicate, ℤ, nat_abs, Some, refl, ap, ◌∙◌, mul-le-mul, arith}
 use Rattle.std.specs.List.{list_all, AllByRecursion}
 use Rattle.std.proofs.lemmas.List.{length-replicate}
 use Rattle.std.proofs.lemmas.Bool.{and_from, eq-eqb, le-leb, leb-true, lt-ltb}
@@ -12,14 +12,12 @@ use Rattle.hub_cards.specs.Tables.{at, put, blank_card}
 use Rattle.hub_cards.specs.declared.BackupNumber.{BackupNumber}
 use Rattle.hub_cards.specs.declared.Card.{Card}
 use Rattle.hub_cards.specs.declared.MasterNumber.{MasterNumber}
-use Rattle.hub_cards.specs.declared.Status.{Status}
-use Rattle.hub_cards.specs.declared.Status.TheVariants.{Active, Lost}
 use Rattle.hub_records.specs.Commands.{backup_in, knows_backup, knows_master, master_in, rests, the_backup, the_master, waits}
 use Rattle.hub_records.specs.declared.commands.Command.{Command}
 use Rattle.hub_records.specs.declared.commands.Message.{Message}
 use Rattle.hub_records.specs.declared.commands.Message.TheVariants.{MasterDo, MasterDone, BackupDo, BackupDone, MasterGetNewBackup, BackupGetNewMaster, NewBackupId, NewMasterId}
 use Rattle.hub_records.specs.declared.commands.Phase.{Phase}
-use Rattle.hub_records.specs.declared.commands.Phase.TheVariants.{Pending, Working, Done, GaveUp}
+use Rattle.hub_records.specs.declared.commands.Phase.TheVariants.{Pending, Done, GaveUp}
 use Rattle.hub_records.specs.declared.hub.ExecState.{ExecState}
 use Rattle.hub_tables.specs.Fit.{card_fits, command_fits, message_fits, numbers_fit}
 use Rattle.hub_tables.specs.Search.{active_card}
@@ -27,7 +25,7 @@ use Rattle.hub_tables.proofs.Searches.{active_card_is}
 use Rattle.hub_runs.specs.Fits.{state_fits}
 use Rattle.hub_runs.specs.Hubs.{Size, State, blank_client, client, master_card, backup_card, has_taken, with_client, with_exec, master_takes, backup_takes}
 use Rattle.hub_runs.specs.Judging.{carried_out, judged}
-use Rattle.hub_runs.specs.Runs.{Limits, Call, Lists, Run, fresh, first_card, made, lists_after, run_of}
+use Rattle.hub_runs.specs.Runs.{Limits, Call, fresh, first_card, made, run_of}
 use Rattle.hub_runs.proofs.Keeping.{Keeps, guard_keeps, with_card_keeps, by_card_keeps, run_keeps}
 use Rattle.hub_runs.proofs.Places.{length-put}
 use Rattle.hub_runs.proofs.Tally.{Tallied}

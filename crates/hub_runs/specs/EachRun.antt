@@ -1,11 +1,9 @@
 -- What is promised of one run, so that a call can say it of the run that it takes on; and that every run keeps it.
 -- `start` and `rule` are those of the register's kind.
-use Rattle.std.specs.Prelude.{◌≡◌, ℕ, ◌+◌, ◌*◌, ◌<◌, ◌≤◌, true, false, cond, eqb, ◌⊎◌, List, [], ◌∷◌, length, ℤ, pos, fold}
+use Rattle.std.specs.Prelude.{◌≡◌, ℕ, ◌+◌, ◌*◌, ◌<◌, ◌≤◌, true, ◌⊎◌, List, [], ℤ, fold}
 use Rattle.registers.specs.Kind.{Rule}
-use Rattle.registers.specs.Taken.{Taken, InRange}
 use Rattle.hub_cards.specs.Statuses.{is_used}
 use Rattle.hub_cards.specs.Tables.{at}
-use Rattle.hub_cards.specs.declared.Card.{Card}
 use Rattle.hub_cards.specs.declared.Status.TheVariants.{Active, Lost}
 use Rattle.hub_records.specs.declared.commands.Phase.TheVariants.{Done, GaveUp}
 use Rattle.hub_records.specs.declared.hub.ExecState.TheVariants.{Running, Success, Fatal}
@@ -13,7 +11,7 @@ use Rattle.hub_runs.specs.Hubs.{Size, State, client, master_card, backup_card}
 use Rattle.hub_runs.specs.Fits.{state_fits}
 use Rattle.hub_runs.specs.Judging.{moved, step}
 use Rattle.hub_runs.specs.Promises.{accepted, backup_list, Counted, Holds, master_list}
-use Rattle.hub_runs.specs.Runs.{Limits, Call, Reply, stepped, refused, seen, Run, last_master, last_backup, run_of}
+use Rattle.hub_runs.specs.Runs.{Limits, Call, Run, last_master, last_backup, run_of}
 
 module _ (start : List ℤ) (rule : Rule) (size : Size) (moves : List ℤ) (r : Run) where
   -- Each card that was ever active.

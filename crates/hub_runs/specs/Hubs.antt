@@ -1,6 +1,6 @@
 -- A hub at one moment: its constants, its tables, and the ways in which a step changes them.
 -- The names are those of the TLA+ module AsyncFinishReplication; a client is a command.
-use Rattle.std.specs.Prelude.{ℕ, ◌+◌, Bool, true, false, cond, ◌&&◌, List, [], ◌∷◌, get_or, ℤ, pos, Some, None, Option}
+use Rattle.std.specs.Prelude.{ℕ, ◌+◌, Bool, true, cond, ◌&&◌, List, [], ◌∷◌, ℤ, pos, None}
 use Rattle.registers.specs.Kind.{Rule}
 use Rattle.hub_records.specs.Commands.{is_done, rests, the_backup, the_master}
 use Rattle.hub_cards.specs.Tables.{at, put, blank_card}
@@ -8,13 +8,11 @@ use Rattle.hub_cards.specs.declared.BackupNumber.{BackupNumber}
 use Rattle.hub_cards.specs.declared.Card.{Card}
 use Rattle.hub_cards.specs.declared.MasterNumber.{MasterNumber}
 use Rattle.hub_cards.specs.declared.Status.{Status}
-use Rattle.hub_cards.specs.declared.Status.TheVariants.{Unused, Active, Lost}
+use Rattle.hub_cards.specs.declared.Status.TheVariants.{Active, Lost}
 use Rattle.hub_records.specs.declared.commands.Command.{Command}
-use Rattle.hub_records.specs.declared.commands.Message.{Message}
-use Rattle.hub_records.specs.declared.commands.Phase.{Phase}
-use Rattle.hub_records.specs.declared.commands.Phase.TheVariants.{Pending, Working, Done, GaveUp}
+use Rattle.hub_records.specs.declared.commands.Phase.TheVariants.{Pending, GaveUp}
 use Rattle.hub_records.specs.declared.hub.ExecState.{ExecState}
-use Rattle.hub_records.specs.declared.hub.ExecState.TheVariants.{Running, Success, Fatal}
+use Rattle.hub_records.specs.declared.hub.ExecState.TheVariants.{Success, Fatal}
 
 -- CLIENT_NUM, MAX_KILL and the greatest instance number: how many commands, losses and card places there are.
 pub record Size : Type 0 where

@@ -1,5 +1,5 @@
 -- How a step is judged: the causes for which it is denied, in rising order of their numbers, and else what it leads to.
-use Rattle.std.specs.Prelude.{ℕ, suc, ◌+◌, ◌-◌, Bool, true, false, cond, not, ◌&&◌, List, [], ◌∷◌, Some, None, Option, ◌==◌, nat_le, nat_lt}
+use Rattle.std.specs.Prelude.{ℕ, ◌+◌, Bool, true, false, cond, not, ◌&&◌, Some, None, Option, ◌==◌, nat_le, nat_lt}
 use Rattle.registers.specs.Kind.{Rule}
 use Rattle.actions.specs.Letters.{action_of, place_of, is_of_command}
 use Rattle.actions.specs.declared.Action.{Action}
@@ -10,7 +10,7 @@ use Rattle.hub_tables.specs.Search.{active_card, last_lost}
 use Rattle.hub_records.specs.declared.commands.Message.{Message}
 use Rattle.hub_records.specs.declared.commands.Message.TheVariants.{MasterDo, MasterDone, BackupDo, BackupDone, MasterGetNewBackup, BackupGetNewMaster, NewBackupId, NewMasterId}
 use Rattle.hub_records.specs.declared.commands.Phase.{Phase}
-use Rattle.hub_records.specs.declared.commands.Phase.TheVariants.{Pending, Working, Done, GaveUp}
+use Rattle.hub_records.specs.declared.commands.Phase.TheVariants.{Pending, Done}
 use Rattle.hub_records.specs.declared.hub.ExecState.{ExecState}
 use Rattle.hub_records.specs.declared.hub.ExecState.TheVariants.{Running, Success, Fatal}
 use Rattle.hub_runs.specs.Hubs.{Size, State, client, master_card, backup_card, backup_of, master_of, with_client, completed, given_up, master_takes, backup_takes, new_backup, new_master, master_lost, backup_lost}

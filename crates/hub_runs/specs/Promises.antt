@@ -1,11 +1,9 @@
 -- What every run keeps: for each size within the limits, all moves, and each list of calls, however many are denied.
 -- `start` and `rule` are those of the register's kind.
-use Rattle.std.specs.Prelude.{◌≡◌, ℕ, ◌+◌, ◌*◌, ◌<◌, ◌≤◌, true, false, cond, ◌⊎◌, List, [], ◌∷◌, length, ℤ, pos, fold, ◌==◌}
+use Rattle.std.specs.Prelude.{◌≡◌, ℕ, ◌+◌, ◌*◌, ◌<◌, ◌≤◌, true, cond, ◌⊎◌, List, [], ◌∷◌, length, ℤ, pos, fold, ◌==◌}
 use Rattle.registers.specs.Kind.{Rule}
-use Rattle.registers.specs.Taken.{Taken, InRange}
 use Rattle.hub_cards.specs.Statuses.{is_used}
 use Rattle.hub_cards.specs.Tables.{at}
-use Rattle.hub_cards.specs.declared.Card.{Card}
 use Rattle.hub_cards.specs.declared.Status.TheVariants.{Active, Lost}
 use Rattle.hub_records.specs.declared.commands.Phase.TheVariants.{Done, GaveUp}
 use Rattle.hub_records.specs.declared.hub.ExecState.TheVariants.{Running, Success, Fatal}

@@ -1,6 +1,6 @@
 -- Runs: what making a hub sets, and then any list of steps and looks, each on what the earlier ones left.
 -- A run also keeps, for each card, the list of the commands that the card has taken.
-use Rattle.std.specs.Prelude.{◌≡◌, ℕ, ◌+◌, ◌-◌, ◌≤◌, Bool, true, false, cond, List, [], ◌∷◌, ◌++◌, map, length, replicate, ℤ, Some, None, fold, Option}
+use Rattle.std.specs.Prelude.{◌≡◌, ℕ, ◌+◌, ◌-◌, ◌≤◌, cond, List, [], ◌∷◌, ◌++◌, map, length, replicate, ℤ, Some, None, fold, Option}
 use Rattle.std.specs.List.{AllByRecursion}
 use Rattle.registers.specs.Kind.{Rule}
 use Rattle.registers.specs.Taken.{InRange}
@@ -11,11 +11,11 @@ use Rattle.hub_records.specs.Commands.{backup_in, is_done, master_in, the_backup
 use Rattle.hub_tables.specs.Search.{active_card, last_lost, last_card}
 use Rattle.hub_cards.specs.Tables.{at, put, blank_card}
 use Rattle.hub_cards.specs.declared.Card.{Card}
-use Rattle.hub_cards.specs.declared.Status.TheVariants.{Unused, Active, Lost}
+use Rattle.hub_cards.specs.declared.Status.TheVariants.{Active}
 use Rattle.hub_records.specs.declared.commands.Command.{Command}
 use Rattle.hub_records.specs.declared.commands.Phase.TheVariants.{Pending}
 use Rattle.hub_records.specs.declared.hub.ExecState.{ExecState}
-use Rattle.hub_records.specs.declared.hub.ExecState.TheVariants.{Running, Success, Fatal}
+use Rattle.hub_records.specs.declared.hub.ExecState.TheVariants.{Running}
 use Rattle.hub_runs.specs.Hubs.{Size, State, client, master_card, backup_card}
 use Rattle.hub_runs.specs.Judging.{Answer, denied, moved, step}
 

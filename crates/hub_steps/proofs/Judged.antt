@@ -1,5 +1,5 @@
 -- From the tests of a step to the model's answer.
-use Rattle.std.proofs.Common.{◌≡◌, ℕ, Bool, true, false, cond, ◌≢◌, Some, None, Ok, Err, Option, Result, sym, refl, ap, ◌∙◌, subst}
+use Rattle.std.proofs.Common.{◌≡◌, ℕ, Bool, true, false, ◌≢◌, Some, None, Err, Result, sym, refl, ap, ◌∙◌, subst}
 use Rattle.std.proofs.lemmas.Bool.{cond-true, cond-false}
 use Rattle.refusals.specs.Refusals.{number_of}
 use Rattle.refusals.specs.declared.Refusal.{Refusal}
@@ -9,7 +9,7 @@ use Rattle.actions.specs.declared.Action.{Action}
 use Rattle.actions.specs.declared.Action.TheVariants.{Starting, MasterDoing, HandlingMasterDone, BackupDoing, DetectingOldMasterId, HandlingBackupDone, HandlingMasterDoFailed, HandlingBackupDoFailed, GettingNewBackup, GettingNewMaster, HandlingBackupGetNewMasterFailed, HandlingMasterGetNewBackupFailed, UpdatingBackupId, UpdatingMasterId, CreatingNewBackup, CreatingNewMaster, KillingMaster, KillingBackup}
 use Rattle.hub_records.specs.Commands.{master_in, backup_in}
 use Rattle.hub_runs.specs.Hubs.{Size, State, client}
-use Rattle.hub_runs.specs.Judging.{Answer, denied, moved, guard, is_numbered, may_lose, is_ready, is_running, carried_out, judged, by_letter, step}
+use Rattle.hub_runs.specs.Judging.{Answer, denied, guard, is_numbered, may_lose, is_ready, is_running, carried_out, judged, by_letter, step}
 use Rattle.hub_steps.specs.Replied.{Replied}
 use Rattle.hub_steps.specs.Seeing.{CommandSteps}
 use Rattle.hub_runs.specs.Fits.{state_fits, step_answer}

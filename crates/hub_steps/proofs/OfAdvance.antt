@@ -1,5 +1,5 @@
 -- A command that moves on makes the hub take the model's step.
-use Rattle.std.proofs.Common.{◌≡◌, ℕ, Bool, true, false, eqb, List, ℤ, Some, None, Ok, Err, Option, sym, refl, ap, ◌∙◌, subst, arith}
+use Rattle.std.proofs.Common.{◌≡◌, ℕ, Bool, true, false, List, ℤ, Some, None, Ok, Err, Option, sym, refl, ap, ◌∙◌, subst, arith}
 use Rattle.std.specs.Option.{option_map}
 use Rattle.refusals.specs.Refusals.{number_of}
 use Rattle.refusals.specs.declared.Refusal.{Refusal}
@@ -7,7 +7,7 @@ use Rattle.registers.specs.Kind.{Rule}
 use Rattle.actions.specs.Letters.{is_of_command}
 use Rattle.actions.specs.declared.Action.{Action}
 use Rattle.actions.specs.declared.Action.TheVariants.{Starting, MasterDoing, HandlingMasterDone, BackupDoing, DetectingOldMasterId, HandlingBackupDone, HandlingMasterDoFailed, HandlingBackupDoFailed, GettingNewBackup, GettingNewMaster, HandlingBackupGetNewMasterFailed, HandlingMasterGetNewBackupFailed, UpdatingBackupId, UpdatingMasterId, CreatingNewBackup, CreatingNewMaster, KillingMaster, KillingBackup}
-use Rattle.hub_records.specs.Advance.{Advance, stays, goes, check, by_master, by_backup, is_for, gone_on, advance_of}
+use Rattle.hub_records.specs.Advance.{Advance, stays, goes, check, by_master, by_backup, advance_of}
 use Rattle.hub_records.specs.Commands.{the_master, the_backup, master_in, backup_in}
 use Rattle.hub_cards.specs.Tables.{put}
 use Rattle.hub_records.specs.declared.advance.Effect.{Effect}

@@ -1,5 +1,5 @@
 -- What a call answers and leaves, where the model gives this answer: a denied step changes nothing.
-use Rattle.std.specs.Prelude.{◌≡◌, ℕ, Result, MatchResult, OnErr}
+use Rattle.std.specs.Prelude.{◌≡◌, Result, MatchResult, OnErr}
 use Rattle.refusals.specs.Refusals.{number_of}
 use Rattle.refusals.specs.declared.Refusal.{Refusal}
 use Rattle.hub_runs.specs.Hubs.{State}

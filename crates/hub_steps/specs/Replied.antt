@@ -1,5 +1,5 @@
 -- What a call answers and leaves, where the model gives an answer.
-use Rattle.std.specs.Prelude.{◌≡◌, ℕ, List, Ok, Err, Result, OnErr}
+use Rattle.std.specs.Prelude.{◌≡◌, List, Ok, Err, Result, OnErr}
 use Rattle.refusals.specs.Refusals.{number_of}
 use Rattle.refusals.specs.declared.Refusal.{Refusal}
 use Rattle.hub_runs.specs.GoingOn.{Outcome}

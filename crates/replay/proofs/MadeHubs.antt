@@ -1,5 +1,5 @@
 -- The header of a journal makes a hub: none of the causes for which making is refused can arise.
-use Rattle.std.proofs.Common.{◌≡◌, ℕ, suc, ◌≤◌, true, List, [], ◌∷◌, length, ℤ, Some, None, Ok, Err, Option, Result, sym, refl, ap, ◌∙◌, subst, arith}
+use Rattle.std.proofs.Common.{◌≡◌, ℕ, suc, ◌≤◌, true, List, [], ◌∷◌, length, ℤ, None, Ok, Err, Option, Result, sym, refl, ap, ◌∙◌, subst, arith}
 use Rattle.std.specs.List.{AllByRecursion}
 use Rattle.std.proofs.lemmas.Bool.{and_from, and_parts, cond-true, eq-eqb, eqb-true, le-leb, leb-true}
 use Rattle.refusals.specs.declared.Refusal.{Refusal}
@@ -8,8 +8,8 @@ use Rattle.registers.specs.Taken.{InRange}
 use Rattle.hub_records.specs.declared.hub.Hub.{Hub}
 use Rattle.hub_runs.specs.GoingOn.{AfterCalls}
 use Rattle.hub_runs.specs.Hubs.{Size}
-use Rattle.hub_runs.specs.States.{Lent, size_of, state_in}
-use Rattle.hub_making.specs.Making.{BeginsRun, Follows, MakesRun, all_lengths_fit, by_move, cause, counts_fit, first_outside, move_fits, sized}
+use Rattle.hub_runs.specs.States.{Lent, state_in}
+use Rattle.hub_making.specs.Making.{BeginsRun, Follows, MakesRun, all_lengths_fit, by_move, cause, counts_fit, first_outside, sized}
 use Rattle.replay.specs.Header.{Heads}
 use Rattle.replay.specs.Standing.{Fitted, Stands}
 use Rattle.replay.specs.Told.{Told, is_made, size_told}

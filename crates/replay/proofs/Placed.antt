@@ -1,5 +1,5 @@
 -- From the places that a hub uses to the whole tables.
-use Rattle.std.proofs.Common.{◌≡◌, ℕ, zero, suc, ◌-◌, ◌≤◌, true, List, [], ◌∷◌, ◌++◌, map, length, take, drop, ℤ, Ok, Err, Result, sym, refl, ap, ◌∙◌, subst, arith}
+use Rattle.std.proofs.Common.{◌≡◌, ℕ, ◌-◌, ◌≤◌, true, List, ◌++◌, length, take, drop, ℤ, Ok, Err, Result, sym, refl, ap, ◌∙◌, subst, arith}
 use Rattle.std.proofs.lemmas.List.{drop_at, length-map, length-take-le, take_at}
 use Rattle.std.proofs.lemmas.Bool.{and_parts, eqb-true}
 use Rattle.refusals.specs.declared.Refusal.{Refusal}
@@ -7,13 +7,13 @@ use Rattle.registers.specs.Kind.{Rule}
 use Rattle.hub_records.specs.declared.hub.Hub.{Hub}
 use Rattle.hub_runs.specs.Fits.{state_fits}
 use Rattle.hub_runs.specs.Hubs.{State}
-use Rattle.hub_runs.specs.States.{Lent, lent, size_of, state_in}
+use Rattle.hub_runs.specs.States.{Lent, lent, state_in}
 use Rattle.hub_steps.proofs.Fitted.{fitting}
 use Rattle.journal.specs.declared.place.Place.{Place}
 use Rattle.journal.specs.declared.registers.Accepted.{Accepted}
 use Rattle.replay.specs.Header.{Heads}
 use Rattle.replay.specs.Replayed.{ByTables, Leaves, are_full, beyond, front}
-use Rattle.replay.specs.Replaying.{Replay, replay_of, replay_rest, stopped}
+use Rattle.replay.specs.Replaying.{Replay, replay_of, replay_rest}
 use Rattle.replay.specs.Standing.{Fitted, Played, Stands}
 use Rattle.replay.specs.Told.{Told, is_made, size_told}
 use Rattle.replay.specs.declared.header.Header.{Header}

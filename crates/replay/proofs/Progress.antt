@@ -1,13 +1,13 @@
 -- Reading line by line: what is left of the journal decides what becomes of the replay.
-use Rattle.std.proofs.Common.{◌≡◌, ℕ, ◌+◌, ◌≤◌, Bool, true, false, cond, leb, List, length, drop, ℤ, Some, None, Ok, Err, Option, Result, sym, refl, ap, ◌∙◌, subst, inl, inr, arith}
-use Rattle.std.proofs.lemmas.Bool.{cases_Bool, cond-false, cond-true, leb-true}
+use Rattle.std.proofs.Common.{◌≡◌, ℕ, ◌+◌, true, false, leb, List, length, drop, ℤ, Some, None, Ok, Err, Option, Result, sym, refl, ap, ◌∙◌, subst, inl, inr, arith}
+use Rattle.std.proofs.lemmas.Bool.{cases_Bool, cond-false, cond-true}
 use Rattle.refusals.specs.declared.Refusal.{Refusal}
 use Rattle.refusals.specs.declared.Refusal.TheVariants.{JournalTooLong}
 use Rattle.registers.specs.Kind.{Rule}
 use Rattle.journal.specs.Lines.{entry_of, value_of}
-use Rattle.journal.specs.Outcomes.{Moves, Outcome, Passed, accepted, commands_after, finished, next_outcome, next_result, outcome_at, refused}
+use Rattle.journal.specs.Outcomes.{Moves, Outcome, Passed, accepted, finished, next_outcome, next_result, outcome_at, refused}
 use Rattle.journal.specs.Rows.{Rows, end, cut, row, rows_of}
-use Rattle.journal.specs.Values.{Entry, commands, kills, cards, register, move, step}
+use Rattle.journal.specs.Values.{Entry}
 use Rattle.journal.specs.declared.keys.Key.{Key}
 use Rattle.journal.specs.declared.lines.Line.{Line}
 use Rattle.journal.specs.declared.place.Place.{Place}

@@ -5,7 +5,6 @@ use Rattle.refusals.specs.declared.Refusal.TheVariants.{JournalTooLong, LineNotD
 use Rattle.registers.specs.Kind.{Rule}
 use Rattle.journal.specs.Outcomes.{Outcome, accepted, finished, refused, next_outcome}
 use Rattle.journal.specs.Rows.{Rows, end, cut, row, rows_of}
-use Rattle.journal.specs.Values.{Entry}
 use Rattle.journal.specs.declared.place.Place.{Place}
 use Rattle.journal.specs.declared.registers.Accepted.{Accepted}
 use Rattle.replay.specs.Told.{Told, is_made, nothing_told, noted}

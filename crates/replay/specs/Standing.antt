@@ -7,7 +7,7 @@ use Rattle.hub_runs.specs.GoingOn.{AfterCalls}
 use Rattle.hub_runs.specs.States.{Lent, size_of, state_in}
 use Rattle.journal.specs.declared.place.Place.{Place}
 use Rattle.journal.specs.declared.registers.Accepted.{Accepted}
-use Rattle.replay.specs.Replaying.{Replay, replay_rest, stopped}
+use Rattle.replay.specs.Replaying.{replay_rest, stopped}
 use Rattle.replay.specs.Told.{Told, is_made, size_told}
 
 -- The hub was made as told, and stands where the accepted steps have led. `after-calls` says that this is a run, and has

@@ -1,5 +1,5 @@
 -- A turn moves the invariant on by one move; the first move outside the limits ends the search.
-use Rattle.std.proofs.Common.{◌≡◌, get_or, pos, nat_abs, sym, ap, ◌∙◌, w32, SFits, rules}
+use Rattle.std.proofs.Common.{get_or, pos, nat_abs, sym, ap, ◌∙◌, w32, SFits, rules}
 use Rattle.std.proofs.lemmas.Int.{to_z-of_z}
 use Rattle.hub_making.proofs.MakingSteps.{outside_end, outside_here, outside_on}
 use Rattle.hub_making.proofs.first_outside.Goals as goal

@@ -1,5 +1,5 @@
 -- A turn counts one command, if it is done.
-use Rattle.std.proofs.Common.{◌≡◌, ℕ, ◌+◌, cond, get_or, drop, sym, ap, ◌∙◌, arith}
+use Rattle.std.proofs.Common.{◌≡◌, ℕ, ◌+◌, cond, get_or, drop, sym, ◌∙◌, arith}
 use Rattle.std.proofs.lemmas.List.{at_drop_more, at_drop_all}
 use Rattle.std.proofs.lemmas.Bool.{cond-false, cond-true}
 use Rattle.hub_records.specs.Commands.{is_done}

@@ -1,4 +1,3 @@
-use Rattle.std.proofs.Common.{◌≡◌}
 use Rattle.hub_records.specs.Commands.{the_backup, the_master}
 use Rattle.hub_runs.specs.States.{lent, size_of, state_in}
 use Rattle.hub_runs.proofs.Lawful.{lawful}

@@ -1,4 +1,4 @@
-use Rattle.std.proofs.Common.{◌≡◌, map, length, take, refl, ◌∙◌, subst, arith}
+use Rattle.std.proofs.Common.{map, take, refl, ◌∙◌, subst, arith}
 use Rattle.std.proofs.lemmas.List.{take_all}
 use Rattle.hub_runs.specs.States.{lent, size_of, state_in}
 use Rattle.hub.specs.Calls.{call_of, reply_of}

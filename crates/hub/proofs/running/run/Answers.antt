@@ -1,6 +1,6 @@
-use Rattle.std.proofs.Common.{◌≡◌, false, not, ◌&&◌, eqb, length}
+use Rattle.std.proofs.Common.{length}
 use Rattle.hub_runs.specs.States.{lent}
-use Rattle.hub_making.specs.Making.{counts_fit, sized}
+use Rattle.hub_making.specs.Making.{sized}
 use Rattle.hub.proofs.RunDone.{not_made, places_tested, ran}
 use Rattle.hub.proofs.running.run.Goals as goal
 

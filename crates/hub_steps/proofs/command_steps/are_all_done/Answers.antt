@@ -1,7 +1,6 @@
-use Rattle.std.proofs.Common.{◌≡◌, ◌+◌, true, false, ◌&&◌, get_or, drop, sym, refl, ap, ◌∙◌}
+use Rattle.std.proofs.Common.{◌+◌, ◌&&◌, drop, sym, ap, ◌∙◌}
 use Rattle.std.proofs.lemmas.List.{at_drop_more, at_drop_all}
 use Rattle.std.proofs.lemmas.Bool.{and_left}
-use Rattle.hub_records.specs.Commands.{is_done}
 use Rattle.hub_runs.specs.Hubs.{all_done, blank_client}
 use Rattle.hub_steps.proofs.command_steps.are_all_done.Goals as goal
 

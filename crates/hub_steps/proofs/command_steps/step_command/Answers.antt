@@ -1,4 +1,4 @@
-use Rattle.std.proofs.Common.{◌≡◌, suc, ◌-◌, List, get_or, set, sym, refl, ap, ◌∙◌, arith, w32, SFits, rules}
+use Rattle.std.proofs.Common.{◌≡◌, suc, ◌-◌, List, get_or, set, sym, refl, ap, arith, w32, SFits, rules}
 use Rattle.std.proofs.lemmas.Int.{to_z-of_z}
 use Rattle.hub_records.specs.declared.commands.Command.{Command}
 use Rattle.hub_runs.specs.Hubs.{blank_client}

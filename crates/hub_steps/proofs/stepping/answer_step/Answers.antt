@@ -1,6 +1,5 @@
-use Rattle.std.proofs.Common.{◌≡◌, true, false, map, Some, None, sym, refl, subst, rules}
+use Rattle.std.proofs.Common.{◌≡◌, true, false, map, sym, refl, subst, rules}
 use Rattle.refusals.specs.declared.Refusal.TheVariants.{HubFinished, TablesMisfit, UnknownLetter}
-use Rattle.actions.specs.Letters.{action_of}
 use Rattle.hub_runs.specs.Judging.{is_running}
 use Rattle.hub_steps.specs.Replied.{Replied}
 use Rattle.hub_runs.specs.States.{size_of, state_of}

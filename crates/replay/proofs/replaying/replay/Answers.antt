@@ -1,4 +1,4 @@
-use Rattle.std.proofs.Common.{◌≡◌, ℕ, ◌-◌, List, length, sym, ap, ◌∙◌, arith, Bor}
+use Rattle.std.proofs.Common.{◌≡◌, ℕ, ◌-◌, List, sym, ap, ◌∙◌, arith, Bor}
 use Rattle.hub_runs.specs.States.{lent}
 use Rattle.journal.specs.declared.registers.Accepted.TheVariants.{Only}
 use Rattle.replay.specs.Told.{Told}

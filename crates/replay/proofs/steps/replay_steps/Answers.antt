@@ -1,9 +1,9 @@
-use Rattle.std.proofs.Common.{◌≡◌, ℕ, List, Ok, Err, Result, sym, ap, ◌∙◌, Bor}
+use Rattle.std.proofs.Common.{◌≡◌, ℕ, List, Result, sym, ap, ◌∙◌, Bor}
 use Rattle.std.proofs.lemmas.Bool.{cond-true}
 use Rattle.refusals.specs.declared.Refusal.{Refusal}
 use Rattle.journal.specs.Lines.{entry_of}
 use Rattle.journal.specs.declared.place.Place.{Place}
-use Rattle.replay.specs.Replaying.{Replay, after_noted, replay_rest, stopped}
+use Rattle.replay.specs.Replaying.{Replay, after_noted, replay_rest}
 use Rattle.replay.specs.Told.{Told, noted, step_noted}
 use Rattle.replay.proofs.Progress.{go_on, in_other_words, of_end, of_line, when_finished, when_refused}
 use Rattle.replay.proofs.StepLines.{carried_out, commands_kept, refused_so}

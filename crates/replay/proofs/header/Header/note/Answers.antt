@@ -1,4 +1,4 @@
-use Rattle.std.proofs.Common.{◌≡◌, ◌≤◌, length, set, nat_abs, ap, subst, arith, w32, SFits, rules}
+use Rattle.std.proofs.Common.{◌≤◌, set, nat_abs, ap, subst, arith, w32, SFits, rules}
 use Rattle.std.proofs.lemmas.Int.{to_z-of_z}
 use Rattle.journal.specs.Lines.{entry_of, Sound}
 use Rattle.replay.proofs.Headers.{move_noted}
