@@ -18,7 +18,7 @@ Halfway sum version r = off sum version r ≡ version
 abbrev pub half_goes : ℕ → ℕ
 half_goes n = n + 1
 
--- r is nearest, and where two numbers are, it is the one that a half goes to: `nat_abs sum / version` drops the fraction.
+-- r is nearest, and where two numbers are, it is the one that a half goes to: `unsigned_abs sum / version` drops the fraction.
 pub record IsMean (sum : ℤ) (version : ℕ) (r : ℤ) : Type 0 where
   pub nearest : Nearest sum version r
   pub half : Halfway sum version r → unsigned_abs r ≡ half_goes (unsigned_abs sum / version)

@@ -16,7 +16,7 @@ returns-then-z-lt0 c = record {
   within = omega arith;
   digits =
       set_before c.spell-first.new.text c.spell-first.result 45 21 c.spell-first.array_long c.spell-first.ensures.sign (omega arith)
-      ∙ ap (λ (x : List ℕ). 45 ∷ x) (c.spell-first.ensures.digits ∙ ap decimal c.unsigned-abs.ensures.value)
+      ∙ ap (λ (x : List ℕ). 45 ∷ x) (c.spell-first.ensures.digits ∙ ap decimal c.unsigned_abs.ensures.value)
       ∙ minus_signed _ c.if-z-lt0.true
       ∙ ap signed_decimal (to_z-of_z w64 c.args.z c.ranges.z);
 }

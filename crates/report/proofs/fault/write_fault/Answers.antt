@@ -19,6 +19,6 @@ returns c =
     record {
       short = two_lines_short (codes "fault") (codes "line") _ _ (omega arith) (omega arith) (omega arith) (omega arith);
       writes = writes_then
-          (puts_writes (puts_as (ap (λ (n : ℕ). line_text (codes "fault") (decimal n)) number) c.put-count-line-second.ensures))
-          (puts_writes (puts_as (ap (λ (n : ℕ). line_text (codes "line") (decimal n)) line) c.put-count-line.ensures));
+          (puts_writes (puts_as (ap (λ (n : ℕ). line_text (codes "fault") (decimal n)) number) c.put_count_line-second.ensures))
+          (puts_writes (puts_as (ap (λ (n : ℕ). line_text (codes "line") (decimal n)) line) c.put_count_line.ensures));
     }

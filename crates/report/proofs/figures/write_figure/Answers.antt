@@ -6,7 +6,7 @@ use Rattle.report.proofs.figures.write_figure.Goals as goal
 
 pub returns-then-place-eq0 : goal.returns-then-place-eq0
 returns-then-place-eq0 c = record {
-  first = λ _. puts_writes (puts_as (ap signed_decimal (to_z-of_z w64 c.args.z c.ranges.z)) c.put-signed.ensures);
+  first = λ _. puts_writes (puts_as (ap signed_decimal (to_z-of_z w64 c.args.z c.ranges.z)) c.put_signed.ensures);
   later = λ h. let never : ⊥ = omega arith in absurd never;
 }
 
@@ -14,6 +14,6 @@ pub returns : goal.returns
 returns c = record {
   first = λ h. let never : ⊥ = omega arith in absurd never;
   later = λ _.
-      writes_then (puts_writes c.put-after-comma.ensures)
-      (puts_writes (puts_as (ap signed_decimal (to_z-of_z w64 c.args.z c.ranges.z)) c.put-signed-2.ensures));
+      writes_then (puts_writes c.put-after_comma.ensures)
+      (puts_writes (puts_as (ap signed_decimal (to_z-of_z w64 c.args.z c.ranges.z)) c.put_signed-2.ensures));
 }

@@ -6,7 +6,7 @@ use Rattle.report.specs.Figures.{figures_text}
 use Rattle.report.proofs.Commas.{writes_figure}
 use Rattle.report.proofs.Writing.{writes_none, writes_as}
 use Rattle.report.proofs.figures.write_figures.Goals as goal
-use Rattle.report.proofs.figures.write_figures.Goals.{in-Some, in-default}
+use Rattle.report.proofs.figures.write_figures.Goals.{in-Some, in_default}
 
 pub loop-place-init : goal.loop-place-init
 loop-place-init g c = writes_none (omega arith)
@@ -23,9 +23,9 @@ loop-place-preserved g c =
           let same : w.in-Some.z ≡ z = sym (search rules) in
           let there : slice_get zs i ≡ Some z = cc in
           simp (w.out-is, w.next-is)
-          (writes_figure zs i z within there c.loop-place.invariant w.write-figure-next.ensures.first w.write-figure-next.ensures.later)
-      | in-default w ↦
-          let never : ⊥ = w.in-default.not-Some _ (c.figure.ensures ∙ slice_get-get_or zs i (pos 0) within) in
+          (writes_figure zs i z within there c.loop-place.invariant w.write_figure-next.ensures.first w.write_figure-next.ensures.later)
+      | in_default w ↦
+          let never : ⊥ = w.in_default.not-Some _ (c.figure.ensures ∙ slice_get-get_or zs i (pos 0) within) in
           absurd never
     ]
 

@@ -4,6 +4,6 @@ use Rattle.report.proofs.figures.write_figures_line.Goals as goal
 pub returns : goal.returns
 returns g c =
     writes_then
-    (writes_then (puts_writes c.put-after-key.ensures)
-    (writes_then (puts_writes c.put-after-sign.ensures) c.write-figures-after-figures.ensures))
+    (writes_then (puts_writes c.put-after_key.ensures)
+    (writes_then (puts_writes c.put-after_sign.ensures) c.write_figures-after_figures.ensures))
     (puts_writes c.put.ensures)

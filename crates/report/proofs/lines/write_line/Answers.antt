@@ -4,6 +4,6 @@ use Rattle.report.proofs.lines.write_line.Goals as goal
 pub returns : goal.returns
 returns c =
     writes_then
-    (writes_then (puts_writes c.put-after-key.ensures)
-    (writes_then (puts_writes c.put-after-sign.ensures) (puts_writes c.put-after-value.ensures)))
+    (writes_then (puts_writes c.put-after_key.ensures)
+    (writes_then (puts_writes c.put-after_sign.ensures) (puts_writes c.put-after_value.ensures)))
     (puts_writes c.put.ensures)
