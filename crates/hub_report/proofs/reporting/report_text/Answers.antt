@@ -3,8 +3,8 @@ use Rattle.std.proofs.lemmas.List.{length-map}
 use Rattle.hub_report.proofs.Reported.{reports_seen, seen_within}
 use Rattle.hub_report.proofs.reporting.report_text.Goals as goal
 
-pub print-look-requires : goal.print-look-requires
-print-look-requires g c =
+pub print_look-requires : goal.print_look-requires
+print_look-requires g c =
     let figures = g.R.Register.figures in
     let within = seen_within c.in-Ok.is c.look.ensures in
     record {
@@ -13,4 +13,4 @@ print-look-requires g c =
     }
 
 pub returns-in-Ok : goal.returns-in-Ok
-returns-in-Ok g c = reports_seen c.in-Ok.is c.look.ensures c.print-look.ensures
+returns-in-Ok g c = reports_seen c.in-Ok.is c.look.ensures c.print_look.ensures

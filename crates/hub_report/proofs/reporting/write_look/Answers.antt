@@ -18,12 +18,12 @@ returns g c =
     let master = at [] (map kind.figures c.args.master_registers.now) seen.master.0 in
     let backup = at [] (map kind.figures c.args.backup_registers.now) seen.backup.0 in
     record {
-      short = look_short kind.code seen master backup (omega (arith, c.from.ensures, c.from.type-inv)) (omega (arith, c.from-2.ensures, c.from-2.type-inv)) c.write-role-after-master.ensures.short c.write-role-after-backup.ensures.short (rw (← c.mean-of-mean.ensures.value) c.mean-of-mean.ensures.fits);
+      short = look_short kind.code seen master backup (omega (arith, c.from.ensures, c.from.type_inv)) (omega (arith, c.from-2.ensures, c.from-2.type_inv)) c.write_role-after_master.ensures.short c.write_role-after_backup.ensures.short (rw (← c.mean_of-mean.ensures.value) c.mean_of-mean.ensures.fits);
       writes =
-          writes_then (writes_as (ap (line_text (codes "state")) c.name.ensures) (puts_writes c.put-line-after-state.ensures))
-          (writes_then (counted (codes "steps") _ _ c.from.ensures c.put-count-line-after-steps.ensures)
-          (writes_then (counted (codes "losses") _ _ c.from-2.ensures c.put-count-line-after-losses.ensures)
-          (writes_then c.write-role-after-master.ensures.writes
-          (writes_then c.write-role-after-backup.ensures.writes
-          (writes_as (ap (λ m. line_text (codes "mean") (mean_text m)) c.mean-of-mean.ensures.value) c.write-mean.ensures)))));
+          writes_then (writes_as (ap (line_text (codes "state")) c.name.ensures) (puts_writes c.put_line-after_state.ensures))
+          (writes_then (counted (codes "steps") _ _ c.from.ensures c.put_count_line-after_steps.ensures)
+          (writes_then (counted (codes "losses") _ _ c.from-2.ensures c.put_count_line-after_losses.ensures)
+          (writes_then c.write_role-after_master.ensures.writes
+          (writes_then c.write_role-after_backup.ensures.writes
+          (writes_as (ap (λ m. line_text (codes "mean") (mean_text m)) c.mean_of-mean.ensures.value) c.write_mean.ensures)))));
     }

@@ -9,4 +9,4 @@ use Rattle.hub_report.proofs.role.write_register.Goals as goal
 pub returns-else-number-eq0 : goal.returns-else-number-eq0
 returns-else-number-eq0 g c =
     let there = figures_at g.R.Register.figures c.args.registers.now c.args.number c.index-registers-number.result (omega arith) (omega arith) c.index-registers-number.is in
-    writes_as (ap (line_text c.args.key.now) (ap figures_text there ∙ shows_register c.args.number (at [] (map g.R.Register.figures c.args.registers.now) c.args.number) (omega arith))) (puts_writes c.put-figures-line.ensures)
+    writes_as (ap (line_text c.args.key.now) (ap figures_text there ∙ shows_register c.args.number (at [] (map g.R.Register.figures c.args.registers.now) c.args.number) (omega arith))) (puts_writes c.put_figures_line.ensures)

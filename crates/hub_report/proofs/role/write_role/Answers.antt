@@ -12,9 +12,9 @@ returns g c =
     let a = c.args in
     let few = at_every kind.figures FewFigures (tt, omega arith) (λ x. (laws.fits _ (laws.own x), omega (arith, laws.sized _ (laws.own x), laws.small))) a.registers.now a.number in
     record {
-      short = role_short a.number_key.now a.version_key.now a.register_key.now a.number a.version _ (omega arith) (omega (arith, c.from.ensures, c.from.type-inv)) few;
+      short = role_short a.number_key.now a.version_key.now a.register_key.now a.number a.version _ (omega arith) (omega (arith, c.from.ensures, c.from.type_inv)) few;
       writes =
-          writes_then (puts_writes c.put-count-line-after-number.ensures)
-          (writes_then (writes_as (ap (λ n. line_text a.version_key.now (decimal n)) c.from.ensures) (puts_writes c.put-count-line-after-version.ensures))
-          c.write-register.ensures);
+          writes_then (puts_writes c.put_count_line-after_number.ensures)
+          (writes_then (writes_as (ap (λ n. line_text a.version_key.now (decimal n)) c.from.ensures) (puts_writes c.put_count_line-after_version.ensures))
+          c.write_register.ensures);
     }
