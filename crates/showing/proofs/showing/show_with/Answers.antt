@@ -15,10 +15,10 @@ returns-in-Ok g c =
     let p = replay_of (Only kind.code) kind.start kind.rule args.journal.now in
     let full = all_full before c.requires.commands c.requires.masters.0 c.requires.masters.1 c.requires.backups.0 c.requires.backups.1 in
     let came = came_to_its_end kind.figures kind.start kind.rule p before after c.in-Ok.hub full c.in-Ok.ensures in
-    tried_report kind.code kind.start kind.rule p args.out.now _ c.show-report.result came.0 (c.show-report.ensures p.told came.1)
+    tried_report kind.code kind.start kind.rule p args.out.now _ c.show_report.result came.0 (c.show_report.ensures p.told came.1)
 
-pub returns-then-is-of-another : goal.returns-then-is-of-another
-returns-then-is-of-another g c =
+pub returns-then-is_of_another : goal.returns-then-is_of_another
+returns-then-is_of_another g c =
     let kind = g.R.Register in
     let args = c.args in
     let last = c.replay.new in
@@ -27,10 +27,10 @@ returns-then-is-of-another g c =
     let p = replay_of (Only kind.code) kind.start kind.rule args.journal.now in
     let full = all_full before c.requires.commands c.requires.masters.0 c.requires.masters.1 c.requires.backups.0 c.requires.backups.1 in
     let ending = stopped_there kind.figures kind.start kind.rule p before after c.in-Err.refusal full c.in-Err.ensures in
-    tried_another kind.code kind.start kind.rule p args.out.now _ c.in-Err.refusal ending (sym c.if-is-of-another.ensures) refl
+    tried_another kind.code kind.start kind.rule p args.out.now _ c.in-Err.refusal ending (sym c.if-is_of_another.ensures) refl
 
-pub returns-else-is-of-another : goal.returns-else-is-of-another
-returns-else-is-of-another g c =
+pub returns-else-is_of_another : goal.returns-else-is_of_another
+returns-else-is_of_another g c =
     let kind = g.R.Register in
     let args = c.args in
     let last = c.replay.new in
@@ -39,4 +39,4 @@ returns-else-is-of-another g c =
     let p = replay_of (Only kind.code) kind.start kind.rule args.journal.now in
     let full = all_full before c.requires.commands c.requires.masters.0 c.requires.masters.1 c.requires.backups.0 c.requires.backups.1 in
     let ending = stopped_there kind.figures kind.start kind.rule p before after c.in-Err.refusal full c.in-Err.ensures in
-    tried_fault kind.code kind.start kind.rule p args.out.now _ c.show-fault.result c.in-Err.refusal ending (sym c.if-is-of-another.ensures) c.show-fault.ensures
+    tried_fault kind.code kind.start kind.rule p args.out.now _ c.show_fault.result c.in-Err.refusal ending (sym c.if-is_of_another.ensures) c.show_fault.ensures
