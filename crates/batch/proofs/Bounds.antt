@@ -1,5 +1,5 @@
 -- The totals are a short text.
-use Rattle.std.proofs.Common.{◌≡◌, ℕ, suc, ◌+◌, ◌*◌, ◌^◌, ◌<◌, ◌≤◌, eqb, List, [], ◌∷◌, length, get_or, ℤ, IfSome, Some, None, codes, decimal, Option, arith, length-append}
+use Rattle.std.proofs.Common.{ℕ, suc, ◌*◌, ◌^◌, ◌<◌, ◌≤◌, eqb, List, [], ◌∷◌, length, get_or, ℤ, IfSome, Some, None, codes, decimal, Option, arith, length-append}
 use lib.Signed.{mag}
 use Rattle.std.specs.List.{AllByRecursion}
 use Rattle.std.proofs.lemmas.Bool.{cond_both}

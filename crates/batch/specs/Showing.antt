@@ -1,5 +1,5 @@
 -- What is shown of a journal: its totals, or the fault for which it is refused.
-use Rattle.std.specs.Prelude.{◌≡◌, ℕ, List, length, Ok, Err, Result}
+use Rattle.std.specs.Prelude.{◌≡◌, ℕ, List, Ok, Err, Result}
 use Rattle.refusals.specs.declared.Refusal.{Refusal}
 use Rattle.report.specs.Fault.{text_of_fault}
 use Rattle.report.specs.Printed.{Printed}

@@ -1,17 +1,15 @@
-use Rattle.std.proofs.Common.{◌≡◌, ℕ, ◌+◌, ◌≤◌, length, sym, refl, ap, ◌∙◌, arith}
+use Rattle.std.proofs.Common.{◌≡◌, length, sym, refl, ap, ◌∙◌, arith}
 use Rattle.journal.specs.Lines.{entry_of}
-use Rattle.journal.specs.Outcomes.{accepted, finished, refused, outcome_at}
-use Rattle.journal.specs.declared.registers.Accepted.TheVariants.{AnyNamed}
 use Rattle.journal.proofs.Outcomes.{passed_inside}
 use Rattle.batch.specs.Told.{Told, nothing_told, with_entry}
-use Rattle.batch.proofs.Progress.{told_rest, from_start, short_if_accepted, when_finished, when_refused, when_accepted, in_other_words, of_line, of_end, go_on}
+use Rattle.batch.proofs.Progress.{told_rest, from_start, short_if_accepted, when_finished, when_refused, in_other_words, of_line, of_end, go_on}
 use Rattle.batch.proofs.reading.read_batch.Goals as goal
 
 pub loop-answer-init : goal.loop-answer-init
 loop-answer-init g c =
     let text = c.args.journal.now in
     let new = c.new-reader.ensures in
-    let made = c.nothing-yet-batch.ensures in
+    let made = c.nothing_yet-batch.ensures in
     let at_start : told_rest text (record { at = 0; line = 1 }) nothing_told ≡ told_rest text c.new-reader.result.place nothing_told =
     ap (λ p. told_rest text p nothing_told) (sym new.1.0) in
     (ap (λ t. t.now) new.0, new.1.1.1, λ k. omega (arith, made.few k), (nothing_told, made.holds, new.1.1.0, from_start text ∙ at_start))

@@ -12,4 +12,4 @@ refused_alike figures start rule refusal (Err other) same = ap Err (sym same)
 
 pub returns-in-Err : goal.returns-in-Err
 returns-in-Err g c =
-    rw (refused_alike g.R.Register.figures g.R.Register.start g.R.Register.rule _ _ c.in-Err.ensures) (c.show-fault.ensures _)
+    rw (refused_alike g.R.Register.figures g.R.Register.start g.R.Register.rule _ _ c.in-Err.ensures) (c.show_fault.ensures _)

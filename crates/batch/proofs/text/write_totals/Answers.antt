@@ -17,13 +17,13 @@ returns g c =
     let b = c.args.batch.now in
     let ours = laws.own b.register in
     record {
-      short = totals_short b.commands b.kills b.cards b.kind (kind.figures b.register) b.letters (omega (arith, c.from.ensures, c.from.type-inv)) (omega (arith, c.from-2.ensures, c.from-2.type-inv)) (omega (arith, c.from-3.ensures, c.from-3.type-inv)) (laws.fits _ ours) (omega (arith, laws.sized _ ours, laws.small)) (rw (← c.mean_of.ensures.value) c.mean_of.ensures.fits) c.write-letters.ensures.short;
+      short = totals_short b.commands b.kills b.cards b.kind (kind.figures b.register) b.letters (omega (arith, c.from.ensures, c.from.type_inv)) (omega (arith, c.from-2.ensures, c.from-2.type_inv)) (omega (arith, c.from-3.ensures, c.from-3.type_inv)) (laws.fits _ ours) (omega (arith, laws.sized _ ours, laws.small)) (rw (← c.mean_of.ensures.value) c.mean_of.ensures.fits) c.write_letters.ensures.short;
       writes =
-          writes_then (counted (codes "commands") _ _ c.from.ensures c.put-count-line-after-commands.ensures)
-          (writes_then (counted (codes "kills") _ _ c.from-2.ensures c.put-count-line-after-kills.ensures)
-          (writes_then (counted (codes "cards") _ _ c.from-3.ensures c.put-count-line-after-cards.ensures)
-          (writes_then (writes_as (ap (line_text (codes "register")) c.name.ensures) (puts_writes c.put-line-after-register.ensures))
-          (writes_then (puts_writes c.put-figures-line-after-figures.ensures)
-          (writes_then (writes_as (ap (λ m. line_text (codes "mean") (mean_text m)) c.mean_of.ensures.value) c.write-mean-after-mean.ensures)
-          c.write-letters.ensures.writes)))));
+          writes_then (counted (codes "commands") _ _ c.from.ensures c.put_count_line-after_commands.ensures)
+          (writes_then (counted (codes "kills") _ _ c.from-2.ensures c.put_count_line-after_kills.ensures)
+          (writes_then (counted (codes "cards") _ _ c.from-3.ensures c.put_count_line-after_cards.ensures)
+          (writes_then (writes_as (ap (line_text (codes "register")) c.name.ensures) (puts_writes c.put_line-after_register.ensures))
+          (writes_then (puts_writes c.put_figures_line-after_figures.ensures)
+          (writes_then (writes_as (ap (λ m. line_text (codes "mean") (mean_text m)) c.mean_of.ensures.value) c.write_mean-after_mean.ensures)
+          c.write_letters.ensures.writes)))));
     }
