@@ -172,7 +172,7 @@ fn lines_hold_their_values(rt: HostRuntime) -> Result<(), Fail> {
         Ok(Some(Line::Commands { value, count })) => {
             assert_eq!(rt; count, 12);
             assert_eq!(rt; value.at, 9);
-            assert!(rt; value.text == b"12");
+            assert!(rt; value.text == b"12".as_slice());
         }
         _ => return Err(Fail::new("the first line tells the commands")),
     }
@@ -207,7 +207,7 @@ fn a_step_is_taken_apart(rt: HostRuntime) -> Result<(), Fail> {
                 },
             ),
         ) => {
-            assert!(rt; value.text == b"D1" && number.text == b"1");
+            assert!(rt; value.text == b"D1".as_slice() && number.text == b"1".as_slice());
             assert_eq!(rt; number.at, value.at.saturating_add(1));
             assert_eq!(rt; action.place(), 3);
             assert_eq!(rt; command, 1);
