@@ -1,4 +1,4 @@
-// Checks of the journal reader and of what is shown of a journal, on examples worked out by hand.
+// Checks of what is shown of a journal, on examples worked out by hand.
 #![tactic(auto)]
 
 #[cfg(test)]

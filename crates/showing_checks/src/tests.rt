@@ -1,8 +1,4 @@
 // Expected lines and texts are worked out by hand from docs/journal.md, docs/refusals.md and docs/hub.md.
-use journal::lines::Line;
-use journal::place::Place;
-use journal::reader::Reader;
-use journal::registers::Accepted;
 use refusals::Refusal;
 use showing::{Shown, show};
 use std::process::Abort;
@@ -187,88 +183,4 @@ fn a_text_has_to_fit(rt: HostRuntime) {
         )
     );
     assert!(rt; shorter[0] == 7 && shorter[14] == 7);
-}
-
-fn is_second_line(place: Place) -> bool {
-    place.at == 12 && place.line == 2
-}
-
-#[test]
-fn lines_hold_their_values(rt: HostRuntime) -> Result<(), Fail> {
-    let mut reader = Reader::new(b"commands=12\nkills=x\n", Accepted::Only(1));
-    match reader.next_line() {
-        Ok(Some(Line::Commands { value, count })) => {
-            assert_eq!(rt; count, 12);
-            assert_eq!(rt; value.at, 9);
-            assert!(rt; value.text == b"12");
-        }
-        _ => return Err(Fail::new("the first line tells the commands")),
-    }
-    assert!(rt; is_second_line(reader.place()));
-    assert!(rt;
-        matches!(
-            reader.next_line(),
-            Err(Refusal::ValueNotAllowed { line: 2 })
-        )
-    );
-    assert!(rt; is_second_line(reader.place()));
-    Ok(())
-}
-
-#[test]
-fn a_step_is_taken_apart(rt: HostRuntime) -> Result<(), Fail> {
-    let mut reader = Reader::new(
-        b"commands=1\nkills=0\ncards=1\nregister=sum\nmove=1\nstep=D1\nstep=O\n",
-        Accepted::AnyNamed,
-    );
-    for _ in 0..5 {
-        assert!(rt; matches!(reader.next_line(), Ok(Some(_))));
-    }
-    match reader.next_line() {
-        Ok(
-            Some(
-                Line::Step {
-                    value,
-                    number,
-                    action,
-                    command,
-                },
-            ),
-        ) => {
-            assert!(rt; value.text == b"D1" && number.text == b"1");
-            assert_eq!(rt; number.at, value.at.saturating_add(1));
-            assert_eq!(rt; action.place(), 3);
-            assert_eq!(rt; command, 1);
-        }
-        _ => return Err(Fail::new("the sixth line is a step")),
-    }
-    assert!(rt;
-        matches!(
-            reader.next_line(),
-            Ok(Some(Line::Step {
-                value: _,
-                number: _,
-                action: _,
-                command: 0
-            }))
-        )
-    );
-    assert!(rt; matches!(reader.next_line(), Ok(None)));
-    Ok(())
-}
-
-// A register that is not the caller's is refused; kind 0 accepts none.
-#[test]
-fn only_the_callers_register(rt: HostRuntime) {
-    for kind in 0..4 {
-        let mut reader = Reader::new(
-            b"commands=1\nkills=0\ncards=1\nregister=classes\n",
-            Accepted::Only(kind),
-        );
-        for _ in 0..3 {
-            assert!(rt; matches!(reader.next_line(), Ok(Some(_))));
-        }
-        let accepted = matches!(reader.next_line(), Ok(Some(_)));
-        assert_eq!(rt; accepted, kind == 2);
-    }
 }
