@@ -10,7 +10,7 @@ use Rattle.hub_runs.specs.States.{Lent, size_of, state_in}
 use Rattle.hub_making.specs.Making.{BeginsRun, MakesRun, cause, counts_fit}
 use Rattle.hub_making.specs.Making as making
 use Rattle.hub.specs.Calls.{call_of, reply_of}
-use Rattle.hub.specs.Running.{CarryOn, Follows, Ran, Runs, list_cause}
+use Rattle.hub.specs.Running.{CarryOn, FollowsCalls, Ran, Runs, list_cause}
 use Rattle.hub.specs.declared.calls.Answer.{Answer}
 use Rattle.hub.specs.declared.calls.Call.{Call}
 
@@ -34,9 +34,9 @@ module _ {R : Type 0} (figures : R → List ℤ) (start : List ℤ) (rule : Rule
       → CarryOn start rule (size_of made) (state_in figures made mid) (map call_of calls) (map reply_of answers) (state_in figures hub after)
       → Runs figures start rule size moves calls before places (Ok hub) after answers
   ran made hub mid after answers makes same carried =
-      subst (λ (o : Option Refusal). Follows o (Ran figures start rule size moves calls) before places (Ok hub) after answers) (sym the_cause) (by_cause (cause size moves before) makes)
+      subst (λ (o : Option Refusal). FollowsCalls o (Ran figures start rule size moves calls) before places (Ok hub) after answers) (sym the_cause) (by_cause (cause size moves before) makes)
     where
-      by_cause : (o : Option Refusal) → making.Follows o (BeginsRun figures start rule size moves) before (Ok made) mid → Follows o (Ran figures start rule size moves calls) before places (Ok hub) after answers
+      by_cause : (o : Option Refusal) → making.Follows o (BeginsRun figures start rule size moves) before (Ok made) mid → FollowsCalls o (Ran figures start rule size moves calls) before places (Ok hub) after answers
       by_cause (Some refusal) m = never made refusal m.0
       by_cause None begins =
           let carry = subst (λ k. CarryOn start rule k (state_in figures made mid) (map call_of calls) (map reply_of answers) (state_in figures hub after)) begins.its_size carried in
@@ -49,8 +49,8 @@ module _ {R : Type 0} (figures : R → List ℤ) (start : List ℤ) (rule : Rule
 
   pub not_made : (refusal : Refusal) (mid : Lent R) → MakesRun figures start rule size moves before (Err refusal) mid → Runs figures start rule size moves calls before places (Err refusal) mid places
   not_made refusal mid makes =
-      subst (λ (o : Option Refusal). Follows o (Ran figures start rule size moves calls) before places (Err refusal) mid places) (sym the_cause) (by_cause (cause size moves before) makes)
+      subst (λ (o : Option Refusal). FollowsCalls o (Ran figures start rule size moves calls) before places (Err refusal) mid places) (sym the_cause) (by_cause (cause size moves before) makes)
     where
-      by_cause : (o : Option Refusal) → making.Follows o (BeginsRun figures start rule size moves) before (Err refusal) mid → Follows o (Ran figures start rule size moves calls) before places (Err refusal) mid places
+      by_cause : (o : Option Refusal) → making.Follows o (BeginsRun figures start rule size moves) before (Err refusal) mid → FollowsCalls o (Ran figures start rule size moves calls) before places (Err refusal) mid places
       by_cause (Some found) m = (m.0, m.1, refl)
       by_cause None begins = absurd begins

@@ -33,10 +33,10 @@ pub record Ran {R : Type 0} (figures : R → List ℤ) (start : List ℤ) (rule 
   pub its_answers : map reply_of answers ≡ (runs.run_of size start rule moves (map call_of calls)).replies
 
 -- With a cause, that is the answer, and every table and place is as it was; with none, the calls have been carried out.
-abbrev pub Follows : {R : Type 0} → Option Refusal → (Lent R → List Answer → Hub → Type 0) → Lent R → List Answer → Result Hub Refusal → Lent R → List Answer → Type 0
-Follows (Some refusal) ran before places r after answers = (r ≡ Err refusal) × (after ≡ before) × (answers ≡ places)
-Follows None ran before places r after answers = MatchResult r (ran after answers) (λ _. ⊥)
+abbrev pub FollowsCalls : {R : Type 0} → Option Refusal → (Lent R → List Answer → Hub → Type 0) → Lent R → List Answer → Result Hub Refusal → Lent R → List Answer → Type 0
+FollowsCalls (Some refusal) ran before places r after answers = (r ≡ Err refusal) × (after ≡ before) × (answers ≡ places)
+FollowsCalls None ran before places r after answers = MatchResult r (ran after answers) (λ _. ⊥)
 
 abbrev pub Runs : {R : Type 0} → (R → List ℤ) → List ℤ → Rule → Size → List ℤ → List Call → Lent R → List Answer → Result Hub Refusal → Lent R → List Answer → Type 0
 Runs figures start rule size moves calls before places r after answers =
-    Follows (list_cause size moves calls before places) (Ran figures start rule size moves calls) before places r after answers
+    FollowsCalls (list_cause size moves calls before places) (Ran figures start rule size moves calls) before places r after answers

@@ -15,41 +15,41 @@ use Rattle.hub_runs.specs.Runs.{Limits, Call, Run, last_master, last_backup, run
 
 module _ (start : List ℤ) (rule : Rule) (size : Size) (moves : List ℤ) (r : Run) where
   -- Each card that was ever active.
-  abbrev pub NoCommandIsTakenTwice : Type 0
-  NoCommandIsTakenTwice =
+  abbrev pub NoCommandIsTakenTwiceIn : Type 0
+  NoCommandIsTakenTwiceIn =
       ((m : ℕ) → is_used (master_card r.state m).status ≡ true → Counted start rule moves (master_list r m) (master_card r.state m).version (at [] r.state.master_figures m))
       × ((b : ℕ) → is_used (backup_card r.state b).status ≡ true → Counted start rule moves (backup_list r b) (backup_card r.state b).version (at [] r.state.backup_figures b))
 
   -- The last cards hold every done command, and the backup none that the master lacks.
-  abbrev pub DoneCommandsAreInBothLastLists : Type 0
-  DoneCommandsAreInBothLastLists =
+  abbrev pub DoneCommandsAreInBothLastListsIn : Type 0
+  DoneCommandsAreInBothLastListsIn =
       ((c : ℕ) → 1 ≤ c → c ≤ size.client_num → (client r.state c).phase ≡ Done → Holds (master_list r (last_master r.state)) c × Holds (backup_list r (last_backup r.state)) c)
       × ((c : ℕ) → Holds (backup_list r (last_backup r.state)) c → Holds (master_list r (last_master r.state)) c)
 
   -- At success both last cards have the figures of all moves, taken in the order of the commands' numbers.
-  abbrev pub SuccessCountsEveryCommand : Type 0
-  SuccessCountsEveryCommand = r.state.exec_state ≡ Success →
+  abbrev pub SuccessCountsEveryCommandIn : Type 0
+  SuccessCountsEveryCommandIn = r.state.exec_state ≡ Success →
       (at [] r.state.master_figures (last_master r.state) ≡ fold rule start moves) × (at [] r.state.backup_figures (last_backup r.state) ≡ fold rule start moves)
 
-  abbrev pub AtMostOneCardOfARoleIsActive : Type 0
-  AtMostOneCardOfARoleIsActive =
+  abbrev pub AtMostOneCardOfARoleIsActiveIn : Type 0
+  AtMostOneCardOfARoleIsActiveIn =
       ((m n : ℕ) → (master_card r.state m).status ≡ Active → (master_card r.state n).status ≡ Active → m ≡ n)
       × ((b d : ℕ) → (backup_card r.state b).status ≡ Active → (backup_card r.state d).status ≡ Active → b ≡ d)
 
   -- A hub is fatal only where some command gave up whose own master is lost and whose own backup is lost or unknown.
-  abbrev pub FatalMeansBothCardsOfACommandAreGone : Type 0
-  FatalMeansBothCardsOfACommandAreGone = r.state.exec_state ≡ Fatal →
+  abbrev pub FatalMeansBothCardsOfACommandAreGoneIn : Type 0
+  FatalMeansBothCardsOfACommandAreGoneIn = r.state.exec_state ≡ Fatal →
       (c : ℕ) × (1 ≤ c) × (c ≤ size.client_num) × ((client r.state c).phase ≡ GaveUp) × ((master_card r.state (client r.state c).own_master.0).status ≡ Lost)
       × (((client r.state c).own_backup.0 ≡ 0) ⊎ ((backup_card r.state (client r.state c).own_backup.0).status ≡ Lost))
 
-  abbrev pub StepsAreCountedAndBounded : Type 0
-  StepsAreCountedAndBounded =
+  abbrev pub StepsAreCountedAndBoundedIn : Type 0
+  StepsAreCountedAndBoundedIn =
       (r.state.steps ≡ accepted r.replies) × (r.state.steps ≤ 5 * (size.client_num * (size.max_kill + 1)) + 2 * size.max_kill)
 
   -- While the hub runs and has more card places than losses it is rated for, some step other than a loss is open.
   -- 81 and 82 are the codes of 'Q' and 'R', the losses.
-  abbrev pub SomeStepIsOpen : Type 0
-  SomeStepIsOpen = r.state.exec_state ≡ Running → size.max_kill < size.max_instance →
+  abbrev pub SomeStepIsOpenIn : Type 0
+  SomeStepIsOpenIn = r.state.exec_state ≡ Running → size.max_kill < size.max_instance →
       (letter : ℕ) × (c : ℕ) × (next : State) × (letter < 81) × (step size rule letter c r.state ≡ moved next)
 
   -- The tables fit together, so that no call finds a misfit.
@@ -58,13 +58,13 @@ module _ (start : List ℤ) (rule : Rule) (size : Size) (moves : List ℤ) (r : 
 
 -- All of it.
 pub record Promised (start : List ℤ) (rule : Rule) (size : Size) (moves : List ℤ) (r : Run) : Type 0 where
-  pub no_command_is_taken_twice : NoCommandIsTakenTwice start rule size moves r
-  pub done_commands_are_in_both_last_lists : DoneCommandsAreInBothLastLists start rule size moves r
-  pub success_counts_every_command : SuccessCountsEveryCommand start rule size moves r
-  pub at_most_one_card_of_a_role_is_active : AtMostOneCardOfARoleIsActive start rule size moves r
-  pub fatal_means_both_cards_of_a_command_are_gone : FatalMeansBothCardsOfACommandAreGone start rule size moves r
-  pub steps_are_counted_and_bounded : StepsAreCountedAndBounded start rule size moves r
-  pub some_step_is_open : SomeStepIsOpen start rule size moves r
+  pub no_command_is_taken_twice : NoCommandIsTakenTwiceIn start rule size moves r
+  pub done_commands_are_in_both_last_lists : DoneCommandsAreInBothLastListsIn start rule size moves r
+  pub success_counts_every_command : SuccessCountsEveryCommandIn start rule size moves r
+  pub at_most_one_card_of_a_role_is_active : AtMostOneCardOfARoleIsActiveIn start rule size moves r
+  pub fatal_means_both_cards_of_a_command_are_gone : FatalMeansBothCardsOfACommandAreGoneIn start rule size moves r
+  pub steps_are_counted_and_bounded : StepsAreCountedAndBoundedIn start rule size moves r
+  pub some_step_is_open : SomeStepIsOpenIn start rule size moves r
   pub tables_fit : TablesFit start rule size moves r
 
 abbrev pub EveryRunKeepsItsPromises : List ℤ → Rule → Type 0

@@ -26,11 +26,20 @@ value_of (Step value number action command) = value
 abbrev pub Behind : Part → Part → Type 0
 Behind value number = (number.text.now ≡ drop 1 value.text.now) × (number.at ≡ value.at + 1)
 
--- What a caller may rely on besides: counts and moves keep their limits, and a step's number stands behind its letter.
+-- What a caller may rely on besides: a move keeps its limits, and a step's number stands behind its letter.
 abbrev pub Sound : Line → Type 0
-Sound (Commands value count) = (1 ≤ count) × (count ≤ 64)
-Sound (Kills value count) = count ≤ 7
-Sound (Cards value count) = (1 ≤ count) × (count ≤ 8)
+Sound (Commands value count) = Unit {0}
+Sound (Kills value count) = Unit {0}
+Sound (Cards value count) = Unit {0}
 Sound (Register value kind) = Unit {0}
 Sound (Move value hundredths) = unsigned_abs hundredths ≤ 9000
 Sound (Step value number action command) = Behind value number
+
+-- And counts keep theirs.
+abbrev pub Limited : Line → Type 0
+Limited (Commands value count) = (1 ≤ count) × (count ≤ 64)
+Limited (Kills value count) = count ≤ 7
+Limited (Cards value count) = (1 ≤ count) × (count ≤ 8)
+Limited (Register value kind) = Unit {0}
+Limited (Move value hundredths) = Unit {0}
+Limited (Step value number action command) = Unit {0}

@@ -1,7 +1,7 @@
 // Taking the line that is due.
-ghost use Rattle.std.specs.Prelude.{◌≡◌, ◌+◌, ◌≤◌, ◌∷◌, ◌++◌, length, drop, None, MatchOption, MatchResult};
+ghost use Rattle.std.specs.Prelude.{◌≡◌, ◌+◌, ◌≤◌, ◌∷◌, ◌++◌, length, drop, None, IfOk, MatchOption, MatchResult};
 ghost use Rattle.journal.specs.Keys.{front_of};
-ghost use Rattle.journal.specs.Lines.{value_of, Sound};
+ghost use Rattle.journal.specs.Lines.{value_of, Limited, Sound};
 ghost use Rattle.journal.specs.Outcomes.{Passed, line_outcome, result_outcome, value_at};
 ghost use Rattle.journal.specs.Rows.{rows_of};
 
@@ -45,6 +45,7 @@ pub(crate) fn take_line<'a>(
     requires counted { place.old.line ≤ place.old.at + 1 }
     ensures says { result_outcome result ≡ line_outcome accepts key place.old.line (rows_of (drop place.old.at text.now)) }
     ensures moves { MatchResult result (λ line. Passed text.now key place.old place.new (value_of line) × Sound line) (λ _. place.new ≡ place.old) }
+    ensures limits { IfOk result Limited }
 {
     let saved = *place;
     let guard = Restore { place, saved };

@@ -1,7 +1,7 @@
 // A reader over a lent journal, which hands out line after line.
-ghost use Rattle.std.specs.Prelude.{◌≡◌, ◌+◌, ◌≤◌, ◌&&◌, length, drop};
+ghost use Rattle.std.specs.Prelude.{IfOk, IfSome, ◌≡◌, ◌+◌, ◌≤◌, ◌&&◌, length, drop};
 ghost use Rattle.journal.specs.Keys.{may_end};
-ghost use Rattle.journal.specs.Lines.{entry_of};
+ghost use Rattle.journal.specs.Lines.{entry_of, Limited};
 ghost use Rattle.journal.specs.Outcomes.{Moves, commands_after, is_end, next_result, outcome_at};
 ghost use Rattle.journal.specs.Rows.{rows_of};
 
@@ -52,6 +52,7 @@ impl<'a> Reader<'a> {
         ensures says { next_result result ≡ outcome_at self.old.accepts self.old.commands self.old.place self.old.text.now }
         ensures moves { Moves result self.old.text.now self.old.place self.new.place self.old.commands self.new.commands }
         ensures same { (self.new.text ≡ self.old.text) × (self.new.accepts ≡ self.old.accepts) }
+        ensures limits { IfOk result (λ answer. IfSome answer Limited) }
     {
         let text = self.text;
         if text.len() > LONGEST {

@@ -1,7 +1,7 @@
 // From the value of a line to what it says.
 ghost use Rattle.std.specs.Prelude.{◌≡◌, ◌^◌, ◌<◌, ◌≤◌, pos, neg_ℤ, IfSome, unsigned_abs};
 ghost use Rattle.std.specs.Option.{option_map};
-ghost use Rattle.journal.specs.Lines.{entry_of, value_of, Sound};
+ghost use Rattle.journal.specs.Lines.{entry_of, value_of, Limited, Sound};
 ghost use Rattle.journal.specs.Values.{entry_written, if_accepted, kind_named, move_written, step_written, command_written};
 
 use super::keys::Key;
@@ -61,6 +61,7 @@ fn read_step<'a>(value: Part<'a>) -> Option<Line<'a>>
     requires { value.at < 2 ^ 32 }
     ensures says { option_map entry_of result ≡ step_written value.entry.text.now }
     ensures parts { IfSome result (λ l. (value_of l ≡ value.entry) × Sound l) }
+    ensures limits { IfSome result Limited }
 {
     let [letter, rest @ ..] = value.text else {
         return None;
@@ -84,6 +85,7 @@ pub(crate) fn read_value<'a>(accepts: Accepted, key: Key, value: Part<'a>) -> Op
     requires { value.at < 2 ^ 32 }
     ensures says { option_map entry_of result ≡ entry_written accepts key value.entry.text.now }
     ensures parts { IfSome result (λ l. (value_of l ≡ value.entry) × Sound l) }
+    ensures limits { IfSome result Limited }
 {
     match key {
         Key::Commands => match number_between(value.text, 1, 64) {

@@ -1,6 +1,6 @@
 // Reading the header of a journal: the counts, the register and the moves.
 ghost use Rattle.std.specs.Prelude.{◌≡◌, ◌≤◌};
-ghost use Rattle.journal.specs.Lines.{entry_of, Sound};
+ghost use Rattle.journal.specs.Lines.{entry_of, Limited, Sound};
 ghost use Rattle.replay.specs.Header.{HeadNoted, HeadRead, Heads};
 ghost use Rattle.replay.specs.Told.{Told, head_noted, is_made, nothing_told};
 
@@ -42,6 +42,7 @@ impl Header {
     // Notes the line of this number. A step is not due yet, nor a move for which there is no command.
     fn note(&mut self, line: Line<'_>, number: u32) -> Result<(), Refusal>
         requires sound { Sound line }
+        requires limits { Limited line }
         requires few { self.old.commands ≤ 64 }
         ensures { (t : Told) → Heads self.old t → HeadNoted (head_noted number t (entry_of line.entry)) result self.new }
     {

@@ -14,6 +14,7 @@ returns-in_err-command c =
     record {
       says = ap (option_map entry_of) c.from_residual-in_err-command.ensures ∙ step_at text _ _ None some letter c.in_ok-action.ensures number;
       parts = rw c.from_residual-in_err-command.ensures tt;
+      limits = rw c.from_residual-in_err-command.ensures tt;
     }
 
 pub returns : goal.returns
@@ -25,4 +26,5 @@ returns c =
     record {
       says = step_at text _ _ (Some c.in_ok-command.command) some letter c.in_ok-action.ensures number;
       parts = (refl, (take_rest text 1, refl));
+      limits = tt;
     }

@@ -4,11 +4,11 @@ use Rattle.journal.proofs.reader.Reader.next_line.Goals as goal
 
 pub returns-then-text-gt-LONGEST : goal.returns-then-text-gt-LONGEST
 returns-then-text-gt-LONGEST c =
-    record { says = too_long _ _ _ _ (omega arith); moves = (refl, refl); same = (refl, refl) }
+    record { says = too_long _ _ _ _ (omega arith); moves = (refl, refl); same = (refl, refl); limits = tt }
 
 pub returns-then-has_ended : goal.returns-then-has_ended
 returns-then-has_ended c =
-    record { says = at_end _ _ _ _ (omega arith) (rw c.due-key.ensures at c.if-has_ended.ensures); moves = (refl, refl); same = (refl, refl) }
+    record { says = at_end _ _ _ _ (omega arith) (rw c.due-key.ensures at c.if-has_ended.ensures); moves = (refl, refl); same = (refl, refl); limits = tt }
 
 pub invariant_of-self : goal.invariant_of-self
 invariant_of-self c =
@@ -22,6 +22,7 @@ returns-in-Ok c =
       says = read.says ∙ before_end _ _ _ _ (omega arith) (rw c.due-key.ensures at c.if-has_ended.ensures);
       moves = (read.moves.0, read.moves.1, c.commands_after-self.ensures);
       same = (refl, refl);
+      limits = read.limits;
     }
 
 pub returns-in-Err : goal.returns-in-Err
@@ -31,4 +32,5 @@ returns-in-Err c =
       says = read.says ∙ before_end _ _ _ _ (omega arith) (rw c.due-key.ensures at c.if-has_ended.ensures);
       moves = (read.moves, refl);
       same = (refl, refl);
+      limits = tt;
     }
