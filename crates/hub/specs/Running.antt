@@ -26,7 +26,7 @@ abbrev pub list_cause : {R : Type 0} → Size → List ℤ → List Call → Len
 list_cause size moves calls t places =
     cond (counts_fit size && not (length places == length calls)) (Some WrongTableLength) (cause size moves t)
 
--- The hub and the tables after the calls. `after-calls` says that they are the run's, and has every promise about runs.
+-- The hub and the tables after the calls. `after_calls` says that they are the run's, and has every promise about runs.
 pub record Ran {R : Type 0} (figures : R → List ℤ) (start : List ℤ) (rule : Rule) (size : Size) (moves : List ℤ) (calls : List Call) (t : Lent R) (answers : List Answer) (hub : Hub) : Type 0 where
   pub its_size : size_of hub ≡ size
   pub after_calls : AfterCalls start rule size moves (map call_of calls) (state_in figures hub t)

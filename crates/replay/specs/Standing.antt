@@ -10,7 +10,7 @@ use Rattle.journal.specs.declared.registers.Accepted.{Accepted}
 use Rattle.replay.specs.Replaying.{replay_rest, stopped}
 use Rattle.replay.specs.Told.{Told, is_made, size_told}
 
--- The hub was made as told, and stands where the accepted steps have led. `after-calls` says that this is a run, and has
+-- The hub was made as told, and stands where the accepted steps have led. `after_calls` says that this is a run, and has
 -- everything that is promised of runs.
 pub record Stands {R : Type 0} (figures : R → List ℤ) (start : List ℤ) (rule : Rule) (hub : Hub) (tables : Lent R) (t : Told) : Type 0 where
   pub made : is_made t ≡ true
