@@ -1,4 +1,4 @@
-//! Links the hub library, and beside it the runtime's library where there is one.
+//! Links the hub library, which needs no other.
 
 use std::env;
 use std::path::{Path, PathBuf};
@@ -18,9 +18,5 @@ fn link(folder: &Path, name: &str) {
 
 fn main() {
     println!("cargo:rerun-if-changed=build.rs");
-    link(&folder("MELLFRYD_LIB", "../target/staticlib"), "hub_c");
-    let runtime = folder("RATTLE_LIB", "/opt/rattle/lib");
-    if runtime.join("librattle_c.a").exists() {
-        link(&runtime, "rattle_c");
-    }
+    link(&folder("MELLFRYD_LIB", "../crates/hub_c/out"), "hub_c");
 }

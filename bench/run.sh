@@ -5,7 +5,7 @@
 set -eu
 here=$(cd "$(dirname "$0")" && pwd)
 if [ -z "${MELLFRYD_LIB:-}" ]; then
-    (cd "$here/.." && rt staticlib hub_c)
+    (cd "$here/../crates/hub_c" && rt lib)
 fi
 cd "$here"
 cargo build --release --offline

@@ -1,7 +1,7 @@
 #!/usr/bin/env python3
 """A second opinion on the hub, written from docs/ alone and sharing no code with the crates.
 
-    model.py report < JOURNAL      what hubrun is to print (and its status)
+    model.py report < JOURNAL      what hubreport is to print (and its status)
     model.py walk                  what the example program hub_walk is to print
 
 It favours plainness over speed, and is not proved; the stored outputs of the examples come from it.

@@ -1,4 +1,4 @@
-/* The hub library for C. Link with target/staticlib/libhub_c.a, which `rt staticlib hub_c` builds. */
+/* The hub library for C. Link with crates/hub_c/out/libhub_c.a, which `rt lib` in crates/hub_c builds. */
 #ifndef MELLFRYD_H
 #define MELLFRYD_H
 

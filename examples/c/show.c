@@ -1,4 +1,4 @@
-/* cc examples/c/show.c target/staticlib/libhub_c.a -o show && ./show < examples/two-commands.journal */
+/* cc examples/c/show.c crates/hub_c/out/libhub_c.a -o show && ./show < examples/two-commands.journal */
 #include <stdio.h>
 #include "mellfryd.h"
 

@@ -1,4 +1,4 @@
-// hubrun takes a journal on standard input. It prints the report of the hub that the journal leads to, and ends with status
+// hubreport takes a journal on standard input. It prints the report of the hub that the journal leads to, and ends with status
 // 0; or it prints the fault for which the replay stops, with its line, and ends with status 1.
 // All that matters is in the library: here bytes are read and written.
 #![tactic(auto)]
