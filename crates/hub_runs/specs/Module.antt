@@ -1,8 +1,8 @@
 -- The eighteen actions of the TLA+ module AsyncFinishReplication, each by its guard and its effect: s is the state
--- before the action, and s' the state after it. A name has `-` where the module's has `_`.
+-- before the action, and s' the state after it. The names are the module's.
 -- Where the module picks any client or message, the action is taken for the client that is named, c.
 -- A message is kept with the client that it goes to or comes from, which has one at most: `waits` gives the client a
--- message in place of the last, and puts it to work, as C-Starting does; `rests` takes the message away.
+-- message in place of the last, and puts it to work, as C_Starting does; `rests` takes the message away.
 -- Every effect counts the step as well, and what a card takes is the client's own value.
 use Rattle.std.specs.Prelude.{◌≡◌, ℕ, ◌+◌, ◌<◌, ◌≤◌, ◌⊎◌, Some, None, ◌≢◌}
 use Rattle.registers.specs.Kind.{Rule}

@@ -19,17 +19,17 @@ told_master s c = master_in (client s c).message
 abbrev pub told_backup : State → ℕ → ℕ
 told_backup s c = backup_in (client s c).message
 
--- B-Doing, without asking whether the client's master is still the backup's partner.
+-- B_Doing, without asking whether the client's master is still the backup's partner.
 abbrev pub doing_unasked : ℕ → State → State
 doing_unasked c s = with_client c (waits (BackupDone (the_master (told_master s c)) (the_backup (told_backup s c))) (client s c)) (backup_takes sum_rule (told_backup s c) c s)
 
--- C-HandlingMasterDone, with the partner that the master has now in place of the one that it named.
+-- C_HandlingMasterDone, with the partner that the master has now in place of the one that it named.
 abbrev pub sent_to_partner : ℕ → State → State
 sent_to_partner c s =
     let b : ℕ = backup_of s (told_master s c) in
     with_client c (waits (BackupDo (the_master (told_master s c)) (the_backup b)) (knows_backup b (client s c))) s
 
--- C-HandlingBackupDoFailed, starting the client again.
+-- C_HandlingBackupDoFailed, starting the client again.
 abbrev pub started_again : ℕ → State → State
 started_again c s = with_client c (rests Pending (client s c)) s
 
