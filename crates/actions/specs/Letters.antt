@@ -39,3 +39,7 @@ letter_of a = 65 + place_of a
 -- 'A' to 'N' are steps of one command; 'O' to 'R' concern the cards alone.
 abbrev pub is_of_command : Action → Bool
 is_of_command a = nat_lt (place_of a) 14
+
+-- 'Q' and 'R' are the losses of a card.
+abbrev pub is_loss : Action → Bool
+is_loss a = nat_le 16 (place_of a)

@@ -10,8 +10,8 @@ use Rattle.journal.specs.Values.{Entry, commands, kills, cards, register, move, 
 use Rattle.journal.specs.declared.keys.Key.{Key}
 use Rattle.journal.specs.declared.lines.Line.{Line}
 use Rattle.journal.specs.declared.place.Place.{Place}
-use Rattle.journal.specs.declared.registers.Accepted.{Accepted}
-use Rattle.journal.specs.declared.registers.Accepted.TheVariants.{AnyNamed}
+use Rattle.journal.specs.declared.kinds.Accepted.{Accepted}
+use Rattle.journal.specs.declared.kinds.Accepted.TheVariants.{AnyNamed}
 use Rattle.journal.proofs.Outcomes.{passed_rows}
 use Rattle.batch.specs.Reading.{after_outcome, told_from, told_by}
 use Rattle.batch.specs.Told.{Told, nothing_told, with_entry}

@@ -5,7 +5,7 @@ use Rattle.refusals.specs.declared.Refusal.TheVariants.{JournalTooLong}
 use Rattle.journal.specs.Outcomes.{Outcome, accepted, finished, refused, next_outcome}
 use Rattle.journal.specs.Rows.{Rows, end, cut, row, rows_of}
 use Rattle.journal.specs.Values.{Entry}
-use Rattle.journal.specs.declared.registers.Accepted.TheVariants.{AnyNamed}
+use Rattle.journal.specs.declared.kinds.Accepted.TheVariants.{AnyNamed}
 use Rattle.batch.specs.Told.{Told, nothing_told, with_entry}
 
 abbrev pub after_outcome : Outcome → Told → (Entry → Result Told Refusal) → Result Told Refusal

@@ -1,13 +1,13 @@
 -- What both cards must show when the batch is finished, as text.
-use Rattle.std.specs.Prelude.{ℕ, suc, cond, List, [], ◌∷◌, ◌++◌, ℤ, Some, None, codes, decimal, fold, Option, ◌==◌}
-use Rattle.std.specs.Fmt.{signed_decimal}
+use Rattle.std.specs.Prelude.{ℕ, suc, cond, List, [], ◌∷◌, ◌++◌, ℤ, None, codes, decimal, fold, Option, ◌==◌}
 use Rattle.registers.specs.Kind.{Kind, Rule}
 use Rattle.registers.specs.Classes.{the_classes}
-use Rattle.registers.specs.Mean.{mean_of_sum}
+pub use Rattle.registers.specs.Mean.{mean_of_first}
 use Rattle.registers.specs.Peak.{the_peak}
 use Rattle.registers.specs.Sum.{the_sum}
 use Rattle.report.specs.Figures.{figures_text}
 use Rattle.report.specs.Lines.{line_text}
+pub use Rattle.report.specs.Lines.{mean_text}
 use Rattle.batch.specs.Told.{Told}
 
 -- The kinds of register by their numbers, and their names.
@@ -21,16 +21,8 @@ abbrev pub name_of : ℕ → List ℕ
 name_of kind = by_kind kind (codes "sum") (codes "classes") (codes "peak")
 
 -- Of the sum there is a mean: over the number of commands, since each command counts once.
-abbrev pub mean_of_first : List ℤ → ℕ → Option ℤ
-mean_of_first [] commands = None
-mean_of_first (sum ∷ rest) commands = mean_of_sum sum commands
-
 abbrev pub mean_of : ℕ → List ℤ → ℕ → Option ℤ
 mean_of kind figures commands = by_kind kind (mean_of_first figures commands) None None
-
-abbrev pub mean_text : Option ℤ → List ℕ
-mean_text None = codes "none"
-mean_text (Some z) = signed_decimal z
 
 -- A line for each letter, from this one on, with how many steps stand under it.
 abbrev pub letters_text : ℕ → List ℕ → List ℕ

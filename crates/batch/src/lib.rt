@@ -4,10 +4,9 @@
 mod batch;
 mod reading;
 mod showing;
-mod shown;
 mod text;
 
 pub use batch::Batch;
 pub use reading::read_batch;
+pub use report::Shown;
 pub use showing::show;
-pub use shown::Shown;

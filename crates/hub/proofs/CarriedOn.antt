@@ -1,6 +1,7 @@
 -- Calls carried out one after another take a run on by all of them.
-use Rattle.std.proofs.Common.{◌≡◌, ℕ, ◌+◌, ◌<◌, List, [], ◌∷◌, ◌++◌, map, length, get_or, take, set, ℤ, sym, ap, ◌∙◌, subst, append_assoc, append-nil}
+use Rattle.std.proofs.Common.{Result, ◌≡◌, ℕ, ◌+◌, ◌<◌, List, [], ◌∷◌, ◌++◌, map, length, get_or, take, set, ℤ, sym, ap, ◌∙◌, subst, append_assoc, append-nil}
 use Rattle.std.proofs.lemmas.List.{map_push, take_more, take_more_set}
+use Rattle.refusals.specs.declared.Refusal.{Refusal}
 use Rattle.registers.specs.Kind.{Rule}
 use Rattle.hub_runs.specs.GoingOn.{AfterCalls, GoesOn}
 use Rattle.hub_runs.specs.Hubs.{Size, State}
@@ -28,7 +29,7 @@ module _ (start : List ℤ) (rule : Rule) (size : Size) where
       )
 
 -- A turn of the loop: one more call is read, and its answer is written in its place.
-pub turn : (start : List ℤ) (rule : Rule) (size size' : Size) (s mid after : State) (calls : List Call) (answers : List Answer) (i : ℕ) (blank : Call) (answer : Answer)
+pub turn : (start : List ℤ) (rule : Rule) (size size' : Size) (s mid after : State) (calls : List Call) (answers : List (Result Answer Refusal)) (i : ℕ) (blank : Call) (answer : Result Answer Refusal)
     → size' ≡ size → i < length calls → i < length answers
     → CarryOn start rule size s (map call_of (take i calls)) (map reply_of (take i answers)) mid
     → GoesOn start rule size' mid (call_of (get_or calls i blank)) (reply_of answer) after

@@ -22,15 +22,15 @@ never : {A : Type 0} (hub : Hub) (refusal : Refusal) → ◌≡◌ {A = Result H
 never hub refusal e = let z : ◌≡◌ {A = ℕ} 0 1 = cc in let no : ⊥ = omega arith in absurd no
 
 -- The two ways past the test of the places.
-pub places_tested : (size : Size) (fit : Bool) (places calls : ℕ) → fit ≡ counts_fit size → ((fit ≡ true) × (places ≡ calls)) ⊎ (fit ≡ false) → (counts_fit size && not (eqb places calls)) ≡ false
+places_tested : (size : Size) (fit : Bool) (places calls : ℕ) → fit ≡ counts_fit size → ((fit ≡ true) × (places ≡ calls)) ⊎ (fit ≡ false) → (counts_fit size && not (eqb places calls)) ≡ false
 places_tested size fit places calls told (inr unfit) = and_left _ _ (sym told ∙ unfit)
 places_tested size fit places calls told (inl both) = and_right _ _ (not_from_true _ (eq-eqb _ _ both.1))
 
-module _ {R : Type 0} (figures : R → List ℤ) (start : List ℤ) (rule : Rule) (size : Size) (moves : List ℤ) (calls : List Call) (before : Lent R) (places : List Answer) (counted : (counts_fit size && not (eqb (length places) (length calls))) ≡ false) where
+module _ {R : Type 0} (figures : R → List ℤ) (start : List ℤ) (rule : Rule) (size : Size) (moves : List ℤ) (calls : List Call) (before : Lent R) (places : List (Result Answer Refusal)) (fit : Bool) (told : fit ≡ counts_fit size) (past : ((fit ≡ true) × (length places ≡ length calls)) ⊎ (fit ≡ false)) where
   the_cause : list_cause size moves calls before places ≡ cause size moves before
-  the_cause = cond-false _ _ _ counted
+  the_cause = cond-false _ _ _ (places_tested size fit (length places) (length calls) told past)
 
-  pub ran : (made hub : Hub) (mid after : Lent R) (answers : List Answer) → MakesRun figures start rule size moves before (Ok made) mid → size_of hub ≡ size_of made
+  pub ran : (made hub : Hub) (mid after : Lent R) (answers : List (Result Answer Refusal)) → MakesRun figures start rule size moves before (Ok made) mid → size_of hub ≡ size_of made
       → CarryOn start rule (size_of made) (state_in figures made mid) (map call_of calls) (map reply_of answers) (state_in figures hub after)
       → Runs figures start rule size moves calls before places (Ok hub) after answers
   ran made hub mid after answers makes same carried =

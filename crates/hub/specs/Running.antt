@@ -22,21 +22,21 @@ CarryOn start rule size before calls replies after =
 
 -- The cause for which a list of calls is not begun: there is not one place for each answer, or making is denied. The counts
 -- are looked at first.
-abbrev pub list_cause : {R : Type 0} → Size → List ℤ → List Call → Lent R → List Answer → Option Refusal
+abbrev pub list_cause : {R : Type 0} → Size → List ℤ → List Call → Lent R → List (Result Answer Refusal) → Option Refusal
 list_cause size moves calls t places =
     cond (counts_fit size && not (length places == length calls)) (Some WrongTableLength) (cause size moves t)
 
 -- The hub and the tables after the calls. `after_calls` says that they are the run's, and has every promise about runs.
-pub record Ran {R : Type 0} (figures : R → List ℤ) (start : List ℤ) (rule : Rule) (size : Size) (moves : List ℤ) (calls : List Call) (t : Lent R) (answers : List Answer) (hub : Hub) : Type 0 where
+pub record Ran {R : Type 0} (figures : R → List ℤ) (start : List ℤ) (rule : Rule) (size : Size) (moves : List ℤ) (calls : List Call) (t : Lent R) (answers : List (Result Answer Refusal)) (hub : Hub) : Type 0 where
   pub its_size : size_of hub ≡ size
   pub after_calls : AfterCalls start rule size moves (map call_of calls) (state_in figures hub t)
   pub its_answers : map reply_of answers ≡ (runs.run_of size start rule moves (map call_of calls)).replies
 
 -- With a cause, that is the answer, and every table and place is as it was; with none, the calls have been carried out.
-abbrev pub FollowsCalls : {R : Type 0} → Option Refusal → (Lent R → List Answer → Hub → Type 0) → Lent R → List Answer → Result Hub Refusal → Lent R → List Answer → Type 0
+abbrev pub FollowsCalls : {R : Type 0} → Option Refusal → (Lent R → List (Result Answer Refusal) → Hub → Type 0) → Lent R → List (Result Answer Refusal) → Result Hub Refusal → Lent R → List (Result Answer Refusal) → Type 0
 FollowsCalls (Some refusal) ran before places r after answers = (r ≡ Err refusal) × (after ≡ before) × (answers ≡ places)
 FollowsCalls None ran before places r after answers = MatchResult r (ran after answers) (λ _. ⊥)
 
-abbrev pub Runs : {R : Type 0} → (R → List ℤ) → List ℤ → Rule → Size → List ℤ → List Call → Lent R → List Answer → Result Hub Refusal → Lent R → List Answer → Type 0
+abbrev pub Runs : {R : Type 0} → (R → List ℤ) → List ℤ → Rule → Size → List ℤ → List Call → Lent R → List (Result Answer Refusal) → Result Hub Refusal → Lent R → List (Result Answer Refusal) → Type 0
 Runs figures start rule size moves calls before places r after answers =
     FollowsCalls (list_cause size moves calls before places) (Ran figures start rule size moves calls) before places r after answers

@@ -1,17 +1,18 @@
 // Calls on a hub that was made, and what they are answered, as values: so that a list of calls can be handed over.
 use hub_records::look::Look;
-use refusals::Refusal;
 
-// A step, by its letter and the number of its command, which is 0 for a step of the cards alone; or a look.
-#[derive(Clone, Copy)]
+// A step, by its letter and the number of its command; or a look.
+// By a rule of the project the number is 0, and no Option, for a step of the cards alone.
+#[derive(Clone, Copy, Debug, PartialEq, Eq)]
 pub enum Call {
     Step { letter: char, command: usize },
     Look,
 }
 
-#[derive(Clone, Copy)]
+// What a call is answered that is not refused.
+// An enum of its own, and no `Option<Look>`: a step that is taken has an answer too, and none would say that it had not.
+#[derive(Clone, Copy, Debug, PartialEq, Eq)]
 pub enum Answer {
     Stepped,
-    Refused(Refusal),
     Seen(Look),
 }

@@ -5,7 +5,7 @@ ghost use Rattle.hub_c.specs.Shown.{WritesShown};
 ghost use Rattle.showing.specs.Showing.{text_shown};
 
 use refusals::Refusal;
-use showing::{Shown, show};
+use showing::show;
 
 /// Writes what is shown of a journal to the start of `out`, and answers how long that text is.
 /// Where `out` is shorter than the answer, nothing was written.
@@ -14,9 +14,9 @@ pub extern "C" fn mellfryd_show(journal: &[u8], out: &mut [u8]) -> usize
     ensures { WritesShown (text_shown journal.now) out.old result out.new }
 {
     match show(journal, out) {
-        Ok(Shown::Report(length)) => length,
-        Ok(Shown::Fault(length)) => length,
+        Ok(shown) => shown.length(),
         Err(Refusal::BufferTooShort { needed }) => needed,
+        // The C interface has a length for its only answer; `show` answers no other refusal.
         Err(_) => 0,
     }
 }

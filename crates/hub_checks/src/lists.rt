@@ -1,32 +1,34 @@
 // Lists of calls.
 use super::stand::*;
 use hub::{Answer, Call, run};
+use hub_cards::*;
 use hub_records::commands::*;
+use hub_records::hub::*;
+use refusals::Refusal;
 use std::process::Abort;
 use std::test::Fail;
 
-// 0 for an accepted step, a refusal's number, and for a look 100 and the number of done commands.
-fn answer_number(answer: Answer) -> usize {
-    match answer {
-        Answer::Stepped => 0,
-        Answer::Refused(refusal) => refusal.number() as usize,
-        Answer::Seen(look) => { if look.done < 9 { 100 + look.done } else { 999 } }
+// What an answer says: nothing for a step, and for a look the number of done commands.
+type Told = Result<Option<usize>, Refusal>;
+
+const STEPPED: Told = Ok(None);
+
+const FINISHED: Told = Err(Refusal::HubFinished);
+
+fn told(answer: Result<Answer, Refusal>) -> Told {
+    match answer? {
+        Answer::Stepped => Ok(None),
+        Answer::Seen(look) => Ok(Some(look.done)),
     }
 }
 
-// Steps by letters, each for command 1 or for none, and '?' for a look.
-fn by_letters(letters: [char; 8]) -> [Call; 8] {
-    let mut calls = [Call::Look; 8];
-    for (i, letter) in letters.iter().enumerate() {
-        if *letter != '?' {
-            let command = if *letter < 'O' { 1 } else { 0 };
-            calls[i] = Call::Step {
-                letter: *letter,
-                command,
-            };
-        }
+// The call under a letter, for command 1 or for none, and under '?' a look.
+fn call_for(letter: char) -> Call {
+    match letter {
+        '?' => Call::Look,
+        'A'..='N' => Call::Step { letter, command: 1 },
+        _ => Call::Step { letter, command: 0 },
     }
-    calls
 }
 
 // The hub after these letters, which get these answers.
@@ -34,31 +36,21 @@ fn answers(
     rt: &impl Abort,
     kills: u32,
     letters: [char; 8],
-    expected: [usize; 8],
+    expected: [Told; 8],
 ) -> Result<Stand, Fail> {
-    let calls = by_letters(letters);
-    let mut got = [Answer::Stepped; 8];
-    let mut tables = stand_with(Phase::Done, None);
-    match run(
-        1,
-        kills,
-        2,
+    let counts = Counts { kills, ..COUNTS };
+    let mut got = [Ok(Answer::Stepped); 8];
+    let mut stand = stand_with(Phase::Done, None);
+    stand.hub = run(
+        counts,
         &[25],
-        &mut tables.commands,
-        &mut tables.masters,
-        &mut tables.master_registers,
-        &mut tables.backups,
-        &mut tables.backup_registers,
-        &calls,
+        &mut stand.tables.lend(),
+        &letters.map(call_for),
         &mut got,
-    ) {
-        Ok(hub) => tables.hub = hub,
-        Err(_) => return Err(Fail::new("the hub was not made")),
-    }
-    for (i, number) in expected.iter().enumerate() {
-        assert_eq!(rt; answer_number(got[i]), *number);
-    }
-    Ok(tables)
+    )
+    .map_err(|_| Fail::new("the hub was not made"))?;
+    assert_eq!(rt; got.map(told), expected);
+    Ok(stand)
 }
 
 #[test]
@@ -67,10 +59,19 @@ fn nothing_is_lost(rt: HostRuntime) -> Result<(), Fail> {
         &rt,
         0,
         ['A', 'B', 'C', 'D', 'F', '?', 'A', 'Q'],
-        [0, 0, 0, 0, 0, 101, 5, 5],
+        [
+            STEPPED,
+            STEPPED,
+            STEPPED,
+            STEPPED,
+            STEPPED,
+            Ok(Some(1)),
+            FINISHED,
+            FINISHED,
+        ],
     )?;
-    assert_eq!(rt; done.counts(), [1, 0, 5]);
-    assert_eq!(rt; done.figures(), [25, 0, 25, 0]);
+    assert_eq!(rt; done.counts(), (ExecState::Success, 0, 5));
+    assert_eq!(rt; done.figures(), ([Some(25), Some(0)], [Some(25), Some(0)]));
     Ok(())
 }
 
@@ -80,12 +81,18 @@ fn a_lost_backup_is_replaced(rt: HostRuntime) -> Result<(), Fail> {
         &rt,
         1,
         ['A', 'B', 'C', 'R', 'H', 'O', 'I', 'M'],
-        [0, 0, 0, 0, 0, 0, 0, 0],
+        [STEPPED; 8],
     )?;
-    assert_eq!(rt; done.counts(), [1, 1, 8]);
-    assert_eq!(rt; done.of_cards(), [1, 2, 0, 0, 2, 1, 1, 1]);
-    assert_eq!(rt; done.versions(), [1, 0, 0, 1]);
-    assert_eq!(rt; done.figures(), [25, 0, 0, 25]);
+    assert_eq!(rt; done.counts(), (ExecState::Success, 1, 8));
+    assert_eq!(rt;
+        done.of_cards(),
+        (
+            [(Status::Active, 2), (Status::Unused, 0)],
+            [(Status::Lost, 1), (Status::Active, 1)]
+        )
+    );
+    assert_eq!(rt; done.versions(), ([1, 0], [0, 1]));
+    assert_eq!(rt; done.figures(), ([Some(25), Some(0)], [Some(0), Some(25)]));
     Ok(())
 }
 
@@ -95,10 +102,19 @@ fn a_master_lost_late_does_no_harm(rt: HostRuntime) -> Result<(), Fail> {
         &rt,
         1,
         ['A', 'B', 'C', 'Q', 'D', 'F', '?', 'R'],
-        [0, 0, 0, 0, 0, 0, 101, 5],
+        [
+            STEPPED,
+            STEPPED,
+            STEPPED,
+            STEPPED,
+            STEPPED,
+            STEPPED,
+            Ok(Some(1)),
+            FINISHED,
+        ],
     )?;
-    assert_eq!(rt; done.counts(), [1, 1, 6]);
-    assert_eq!(rt; done.figures(), [25, 0, 25, 0]);
+    assert_eq!(rt; done.counts(), (ExecState::Success, 1, 6));
+    assert_eq!(rt; done.figures(), ([Some(25), Some(0)], [Some(25), Some(0)]));
     Ok(())
 }
 
@@ -108,37 +124,42 @@ fn both_cards_gone_is_fatal(rt: HostRuntime) -> Result<(), Fail> {
         &rt,
         2,
         ['A', 'Q', 'P', 'R', 'G', '?', 'A', 'B'],
-        [0, 0, 0, 0, 0, 100, 5, 5],
+        [
+            STEPPED,
+            STEPPED,
+            STEPPED,
+            STEPPED,
+            STEPPED,
+            Ok(Some(0)),
+            FINISHED,
+            FINISHED,
+        ],
     )?;
-    assert_eq!(rt; fatal.counts(), [2, 2, 5]);
-    assert_eq!(rt; fatal.of_cards(), [2, 1, 1, 1, 2, 2, 0, 0]);
+    assert_eq!(rt; fatal.counts(), (ExecState::Fatal, 2, 5));
+    assert_eq!(rt;
+        fatal.of_cards(),
+        (
+            [(Status::Lost, 1), (Status::Active, 1)],
+            [(Status::Lost, 2), (Status::Unused, 0)]
+        )
+    );
     Ok(())
 }
 
 #[test]
-fn every_answer_needs_its_place(rt: HostRuntime) -> Result<(), Fail> {
-    let mut tables = stand_with(Phase::Done, None);
-    let mut places = [Answer::Stepped; 2];
-    let refused = run(
-        1,
-        0,
-        2,
-        &[25],
-        &mut tables.commands,
-        &mut tables.masters,
-        &mut tables.master_registers,
-        &mut tables.backups,
-        &mut tables.backup_registers,
-        &[Call::Look],
-        &mut places,
-    );
-    match refused {
-        Ok(_) => return Err(Fail::new("an answer had no place")),
-        Err(refusal) => assert_eq!(rt; refusal.number(), 2),
-    }
+fn every_answer_needs_its_place(rt: HostRuntime) {
+    let counts = Counts { kills: 0, ..COUNTS };
+    let mut stand = stand_with(Phase::Done, None);
+    let mut places = [Ok(Answer::Stepped); 2];
     assert_eq!(rt;
-        tables.of_command(),
-        stand_with(Phase::Done, None).of_command()
+        run(
+            counts,
+            &[25],
+            &mut stand.tables.lend(),
+            &[Call::Look],
+            &mut places
+        ),
+        Err(Refusal::WrongTableLength)
     );
-    Ok(())
+    assert_eq!(rt; stand, stand_with(Phase::Done, None));
 }

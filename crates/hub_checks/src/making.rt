@@ -3,88 +3,116 @@ use super::stand::*;
 use hub::make;
 use hub_cards::*;
 use hub_records::commands::*;
+use hub_records::hub::*;
 use refusals::Refusal;
 use std::process::Abort;
 
-// The command that comes with a refusal; 0 for none.
-fn command_in(refusal: Refusal) -> u32 {
-    match refusal {
-        Refusal::MoveOutsideLimits { command } => command,
-        _ => 0,
-    }
-}
-
-// The number of the refusal and the command that comes with it, of a hub made on the tables of a stand.
-fn made(stand: &mut Stand, commands: u32, kills: u32, cards: u32, moves: &[i32]) -> (u32, u32) {
-    match make(
-        commands,
-        kills,
-        cards,
-        moves,
-        &mut stand.commands,
-        &mut stand.masters,
-        &mut stand.master_registers,
-        &mut stand.backups,
-        &mut stand.backup_registers,
-    ) {
-        Ok(hub) => {
-            stand.hub = hub;
-            (0, 0)
-        }
-        Err(refusal) => (refusal.number(), command_in(refusal)),
-    }
+// Makes a hub on the tables of a stand.
+fn made(stand: &mut Stand, counts: Counts, moves: &[i32]) -> Result<(), Refusal> {
+    stand.hub = make(counts, moves, &mut stand.tables.lend())?;
+    Ok(())
 }
 
 // Tables in which nothing is as making leaves it.
 fn used() -> Stand {
     let message = Some(Message::BackupDone(MasterNumber(2), BackupNumber(2)));
-    let mut before = stand_with(Phase::Working, message);
-    before.masters = [master(Status::Lost), master(Status::Active)];
-    before.backups[1].version = 7;
+    let mut before = stand_with(Phase::Working, message).with_cards(
+        [Status::Lost, Status::Active],
+        [Status::Active, Status::Unused],
+    );
+    before.tables.backups[1].version = 7;
     before
 }
 
-fn refused(
-    rt: &impl Abort,
-    commands: u32,
-    kills: u32,
-    cards: u32,
-    moves: &[i32],
-    expected: (u32, u32),
-) {
+fn refused(rt: &impl Abort, counts: Counts, moves: &[i32], cause: Refusal) {
     let mut after = used();
-    assert_eq!(rt; made(&mut after, commands, kills, cards, moves), expected);
-    assert_eq!(rt; after.of_command(), used().of_command());
-    assert_eq!(rt; after.of_cards(), used().of_cards());
-    assert_eq!(rt; after.versions(), used().versions());
-    assert_eq!(rt; after.figures(), used().figures());
+    assert_eq!(rt; made(&mut after, counts, moves), Err(cause));
+    assert_eq!(rt; after, used());
 }
 
 #[test]
 fn counts_have_limits(rt: HostRuntime) {
-    refused(&rt, 0, 1, 2, &[25], (1, 0));
-    refused(&rt, 65, 1, 2, &[25], (1, 0));
-    refused(&rt, 1, 8, 2, &[25], (1, 0));
-    refused(&rt, 1, 1, 0, &[25], (1, 0));
-    refused(&rt, 1, 1, 9, &[9001, 3], (1, 0));
+    let cause = Refusal::CountOutsideLimits;
+    let no_command = Counts {
+        commands: 0,
+        ..COUNTS
+    };
+    refused(&rt, no_command, &[25], cause);
+    let many_commands = Counts {
+        commands: 65,
+        ..COUNTS
+    };
+    refused(&rt, many_commands, &[25], cause);
+    refused(&rt, Counts { kills: 8, ..COUNTS }, &[25], cause);
+    refused(&rt, Counts { cards: 0, ..COUNTS }, &[25], cause);
+    refused(&rt, Counts { cards: 9, ..COUNTS }, &[9001, 3], cause);
 }
 
 #[test]
 fn lengths_and_moves(rt: HostRuntime) {
-    refused(&rt, 1, 1, 2, &[25, 25], (2, 0));
-    refused(&rt, 2, 1, 2, &[25, 25], (2, 0));
-    refused(&rt, 1, 1, 1, &[9001], (2, 0));
-    refused(&rt, 1, 1, 2, &[9001], (3, 1));
-    refused(&rt, 1, 1, 2, &[-9001], (3, 1));
+    let wrong_length = Refusal::WrongTableLength;
+    refused(&rt, COUNTS, &[25, 25], wrong_length);
+    let two_commands = Counts {
+        commands: 2,
+        ..COUNTS
+    };
+    refused(&rt, two_commands, &[25, 25], wrong_length);
+    refused(&rt, Counts { cards: 1, ..COUNTS }, &[9001], wrong_length);
+    let cause = Refusal::MoveOutsideLimits { command: 1 };
+    refused(&rt, COUNTS, &[9001], cause);
+    refused(&rt, COUNTS, &[-9001], cause);
 }
 
 #[test]
 fn a_made_hub(rt: HostRuntime) {
     let mut hub = used();
-    assert_eq!(rt; made(&mut hub, 1, 7, 2, &[-9000]), (0, 0));
-    assert_eq!(rt; hub.counts(), [0, 0, 0]);
-    assert_eq!(rt; hub.of_command(), ([-9000, 1], [1, 0], [0, 0, 0]));
-    assert_eq!(rt; hub.of_cards(), [1, 1, 0, 0, 1, 1, 0, 0]);
-    assert_eq!(rt; hub.versions(), [0, 0, 0, 0]);
-    assert_eq!(rt; hub.figures(), [0, 0, 0, 0]);
+    assert_eq!(rt;
+        made(&mut hub, Counts { kills: 7, ..COUNTS }, &[-9000]),
+        Ok(())
+    );
+    assert_eq!(rt; hub.counts(), (ExecState::Running, 0, 0));
+    assert_eq!(rt;
+        hub.tables.commands,
+        [Command {
+            hundredths: -9000,
+            ..command(Phase::Pending, None)
+        }]
+    );
+    assert_eq!(rt;
+        hub.of_cards(),
+        (
+            [(Status::Active, 1), (Status::Unused, 0)],
+            [(Status::Active, 1), (Status::Unused, 0)]
+        )
+    );
+    assert_eq!(rt; hub.versions(), ([0, 0], [0, 0]));
+    assert_eq!(rt; hub.figures(), ([Some(0), Some(0)], [Some(0), Some(0)]));
+}
+
+// The numbers under which the causes are known.
+#[test]
+fn causes_have_numbers(rt: HostRuntime) {
+    let causes = [
+        Refusal::CountOutsideLimits,
+        Refusal::WrongTableLength,
+        Refusal::MoveOutsideLimits { command: 1 },
+        Refusal::TablesMisfit,
+        Refusal::HubFinished,
+        Refusal::UnknownLetter,
+        Refusal::NoSuchCommand,
+        Refusal::LossesUsedUp,
+        Refusal::WrongPhaseOrMessage,
+        Refusal::WrongCardStatus,
+        Refusal::WrongCardNumber,
+        Refusal::NoPlaceLeft,
+        Refusal::JournalTooLong,
+        Refusal::LineNotDue { line: 1 },
+        Refusal::ValueNotAllowed { line: 1 },
+        Refusal::StepDenied { line: 1 },
+        Refusal::BufferTooShort { needed: 1 },
+    ];
+    assert_eq!(rt;
+        causes.map(Refusal::number),
+        [1, 2, 3, 4, 5, 6, 7, 8, 9, 10, 11, 12, 13, 14, 15, 16, 17]
+    );
 }

@@ -4,15 +4,21 @@ use Rattle.registers.specs.Kind.{Rule}
 use Rattle.refusals.specs.declared.Refusal.{Refusal}
 use Rattle.refusals.specs.declared.Refusal.TheVariants.{CountOutsideLimits, WrongTableLength, MoveOutsideLimits}
 use Rattle.hub_tables.specs.Fit.{lengths_fit}
+use Rattle.hub_tables.specs.Lent.{Lent}
+use Rattle.hub_records.specs.declared.hub.Counts.{Counts}
 use Rattle.hub_records.specs.declared.hub.ExecState.TheVariants.{Running}
 use Rattle.hub_records.specs.declared.hub.Hub.{Hub}
 use Rattle.hub_runs.specs.Hubs.{Size}
 use Rattle.hub_runs.specs.GoingOn.{AfterCalls}
 use Rattle.hub_runs.specs.Runs.{Limits, made}
-use Rattle.hub_runs.specs.States.{Lent, size_of, state_in, state_of}
+use Rattle.hub_runs.specs.States.{size_of, state_in, state_of}
 
 abbrev pub sized : (n k s : ℕ) → Size
 sized n k s = record { client_num = n; max_kill = k; max_instance = s }
+
+-- The size that the counts ask for.
+abbrev pub asked : Counts → Size
+asked counts = sized counts.commands counts.kills counts.cards
 
 -- There are 1 to 64 commands, at most 7 losses, and 1 to 8 cards of each role.
 abbrev pub counts_fit : Size → Bool

@@ -1,66 +1,50 @@
 // Making a hub on tables that the caller lends.
 #![tactic(auto)]
 
-ghost use Rattle.std.specs.Prelude.{◌≡◌, ◌≤◌, false, map, length, replicate, MatchOption};
+ghost use Rattle.std.specs.Prelude.{◌≡◌, ◌≤◌, false, map, length, replicate, MatchResult};
 ghost use Rattle.hub_runs.specs.Runs.{first_card, fresh};
-ghost use Rattle.hub_runs.specs.States.{lent};
-ghost use Rattle.hub_making.specs.Making.{counts_fit, first_outside, Makes, MakesRun, NewHub, one_each, sized};
+ghost use Rattle.hub_tables.specs.Lent.{SameSlices, held, viewed};
+ghost use Rattle.hub_making.specs.Making.{all_lengths_fit, asked, counts_fit, first_outside, Makes, MakesRun, NewHub};
 
 use hub_cards::{BackupNumber, Card, MasterNumber, Status};
 use hub_records::commands::{Command, Phase};
-use hub_records::hub::{ExecState, Hub};
+use hub_records::hub::{Counts, ExecState, Hub};
+use hub_tables::tables::{Tables, View};
 use refusals::Refusal;
-use registers::Register;
-
-/// The largest move either way, in hundredths of a degree.
-const LIMIT: u32 = 9000;
+use registers::{Move, Register};
 
 /// Whether the counts of a hub are within their limits: 1 to 64 commands, at most 7 losses, 1 to 8 cards of each role.
-pub fn counts_fit(commands: u32, kills: u32, cards: u32) -> bool
-    ensures { result ≡ counts_fit (sized commands kills cards) }
+// The limits are written out, here and where a journal is read, replayed or shown: a constant of each would stand below all
+// of these, where there are only refusals, actions and registers.
+pub fn counts_fit(counts: Counts) -> bool
+    ensures { result ≡ counts_fit (asked counts) }
 {
-    1 <= commands && commands <= 64 && kills <= 7 && 1 <= cards && cards <= 8
+    (1..=64).contains(&counts.commands) && counts.kills <= 7 && (1..=8).contains(&counts.cards)
 }
 
 // The record of a new hub, if the counts are within their limits.
-fn new_hub(commands: u32, kills: u32, cards: u32) -> Option<Hub>
-    ensures { MatchOption result (counts_fit (sized commands kills cards) ≡ false) (NewHub (sized commands kills cards)) }
+fn new_hub(counts: Counts) -> Result<Hub, Refusal>
+    ensures { MatchResult result (NewHub (asked counts)) (λ refusal. (counts_fit (asked counts) ≡ false) × (refusal ≡ Refusal.CountOutsideLimits)) }
 {
-    if counts_fit(commands, kills, cards) {
-        Some(Hub {
-            commands,
-            kills,
-            cards,
-            state: ExecState::Running,
-            losses: 0,
-            steps: 0,
-        })
-    } else {
-        None
+    if !counts_fit(counts) {
+        return Err(Refusal::CountOutsideLimits);
     }
+    Ok(Hub {
+        commands: counts.commands,
+        kills: counts.kills,
+        cards: counts.cards,
+        state: ExecState::Running,
+        losses: 0,
+        steps: 0,
+    })
 }
 
 // Whether there is one move and one record for each command, and one record and one register for each card.
-fn one_each(
-    commands: u32,
-    cards: u32,
-    moves: usize,
-    table: usize,
-    masters: usize,
-    master_registers: usize,
-    backups: usize,
-    backup_registers: usize,
-) -> bool
-    ensures { result ≡ one_each commands cards moves table masters master_registers backups backup_registers }
+fn one_each<R>(counts: Counts, moves: &[i32], tables: View<'_, R>) -> bool
+    ensures { result ≡ all_lengths_fit (asked counts) moves.now (viewed tables.entry) }
 {
-    let commands = commands as usize;
-    let cards = cards as usize;
-    moves == commands
-        && table == commands
-        && masters == cards
-        && master_registers == cards
-        && backups == cards
-        && backup_registers == cards
+    let commands = counts.commands as usize;
+    moves.len() == commands && tables.lengths_fit(commands, counts.cards as usize)
 }
 
 // The number of the first move that is outside the limits, from 1.
@@ -68,12 +52,8 @@ fn first_outside(moves: &[i32]) -> Option<u32>
     requires { length moves.now ≤ 64 }
     ensures { result ≡ first_outside 1 moves.now }
 {
-    for (i, z) in moves.iter().enumerate() {
-        if z.unsigned_abs() > LIMIT {
-            return Some(i as u32 + 1);
-        }
-    }
-    None
+    let first = moves.iter().position(|z| z.unsigned_abs() > Move::LIMIT);
+    first.map(|i| i as u32 + 1)
 }
 
 // Writes a fresh command for each move.
@@ -81,9 +61,10 @@ fn set_commands(moves: &[i32], table: &mut [Command])
     requires { length table.old ≡ length moves.now }
     ensures { table.new ≡ map fresh moves.now }
 {
-    for (i, z) in moves.iter().enumerate() {
+    // By index: of `table.iter_mut().zip(moves)` a proof knows only that the length stays.
+    for (i, &hundredths) in moves.iter().enumerate() {
         table[i] = Command {
-            hundredths: *z,
+            hundredths,
             phase: Phase::Pending,
             own_master: MasterNumber(1),
             own_backup: BackupNumber(0),
@@ -97,17 +78,12 @@ fn set_cards<P: Copy>(cards: &mut [Card<P>], one: P, none: P)
     requires { 1 ≤ length cards.old }
     ensures { cards.new ≡ first_card one none (length cards.old) }
 {
-    for card in cards.iter_mut() {
-        *card = Card {
-            status: Status::Unused,
-            partner: none,
-            version: 0,
-        };
-    }
+    let unused = Card::unused(none);
+    cards.fill_with(|| unused);
     cards[0] = Card {
         status: Status::Active,
         partner: one,
-        version: 0,
+        ..unused
     };
 }
 
@@ -115,9 +91,8 @@ fn set_cards<P: Copy>(cards: &mut [Card<P>], one: P, none: P)
 fn set_registers<R: Register>(registers: &mut [R])
     ensures { map R.figures registers.new ≡ replicate (length registers.old) R.start }
 {
-    for register in registers.iter_mut() {
-        *register = R::empty();
-    }
+    let empty = R::empty();
+    registers.fill_with(|| empty);
 }
 
 /// Makes a hub with so many commands, losses at most and cards of each role, and sets the tables as a run begins: every
@@ -125,42 +100,27 @@ fn set_registers<R: Register>(registers: &mut [R])
 /// From here on the calls on this hub are a run, of which everything holds that is promised of runs.
 /// It is refused where a count is outside its limits, a table has another length than the counts say, or a move is
 /// outside the limits, in this order; a refusal changes no table.
+// `slices` stands wherever `&mut Tables` is taken: of a struct that holds a `&mut` a caller knows only what a clause says.
 pub fn make<R: Register>(
-    commands: u32,
-    kills: u32,
-    cards: u32,
+    counts: Counts,
     moves: &[i32],
-    table: &mut [Command],
-    masters: &mut [Card<BackupNumber>],
-    master_registers: &mut [R],
-    backups: &mut [Card<MasterNumber>],
-    backup_registers: &mut [R],
+    tables: &mut Tables<'_, R>,
 ) -> Result<Hub, Refusal>
-    ensures made { Makes R.figures R.start (sized commands kills cards) moves.now (lent table.old masters.old master_registers.old backups.old backup_registers.old) result (lent table.new masters.new master_registers.new backups.new backup_registers.new) }
-    ensures run { MakesRun R.figures R.start R.rule (sized commands kills cards) moves.now (lent table.old masters.old master_registers.old backups.old backup_registers.old) result (lent table.new masters.new master_registers.new backups.new backup_registers.new) }
+    ensures made { Makes R.figures R.start (asked counts) moves.now (held tables.old) result (held tables.new) }
+    ensures run { MakesRun R.figures R.start R.rule (asked counts) moves.now (held tables.old) result (held tables.new) }
+    ensures slices { SameSlices tables.old tables.new }
 {
-    let Some(hub) = new_hub(commands, kills, cards) else {
-        return Err(Refusal::CountOutsideLimits);
-    };
-    if !one_each(
-        commands,
-        cards,
-        moves.len(),
-        table.len(),
-        masters.len(),
-        master_registers.len(),
-        backups.len(),
-        backup_registers.len(),
-    ) {
+    let hub = new_hub(counts)?;
+    if !one_each(counts, moves, tables.view()) {
         return Err(Refusal::WrongTableLength);
     }
     if let Some(command) = first_outside(moves) {
         return Err(Refusal::MoveOutsideLimits { command });
     }
-    set_commands(moves, table);
-    set_cards(masters, BackupNumber(1), BackupNumber(0));
-    set_registers(master_registers);
-    set_cards(backups, MasterNumber(1), MasterNumber(0));
-    set_registers(backup_registers);
+    set_commands(moves, tables.commands);
+    set_cards(tables.masters, BackupNumber(1), BackupNumber(0));
+    set_registers(tables.master_registers);
+    set_cards(tables.backups, MasterNumber(1), MasterNumber(0));
+    set_registers(tables.backup_registers);
     Ok(hub)
 }

@@ -1,5 +1,5 @@
 -- Commands: what they hold, which actions are for them, and how they change.
-use Rattle.std.specs.Prelude.{ℕ, Bool, true, false, cond, List, [], ◌∷◌, Some, None, Option, ◌==◌}
+use Rattle.std.specs.Prelude.{ℕ, pos, Bool, true, false, cond, List, [], ◌∷◌, Some, None, Option, ◌==◌}
 use Rattle.actions.specs.Letters.{place_of}
 use Rattle.actions.specs.declared.Action.{Action}
 use Rattle.actions.specs.declared.Action.TheVariants.{MasterDoing, HandlingMasterDone, BackupDoing, DetectingOldMasterId, HandlingBackupDone, HandlingMasterDoFailed, HandlingBackupDoFailed, GettingNewBackup, GettingNewMaster, HandlingBackupGetNewMasterFailed, HandlingMasterGetNewBackupFailed, UpdatingBackupId, UpdatingMasterId}
@@ -17,6 +17,10 @@ the_master n = record { 0 = n }
 
 abbrev pub the_backup : ℕ → BackupNumber
 the_backup n = record { 0 = n }
+
+-- A command that holds nothing yet: it is pending, moves nothing and knows no card.
+abbrev pub blank_command : Command
+blank_command = record { hundredths = pos 0; phase = Pending; own_master = the_master 0; own_backup = the_backup 0; message = None }
 
 -- A client after a change: of what it waits for, and of what it knows.
 abbrev pub waits : Message → Command → Command
@@ -81,3 +85,14 @@ backup_in (Some (MasterGetNewBackup m b)) = b.0
 backup_in (Some (BackupGetNewMaster m b)) = b.0
 backup_in (Some (NewBackupId m b)) = b.0
 backup_in (Some (NewMasterId m b)) = b.0
+
+-- The backup that a message names, if it names one.
+abbrev pub backup_named : Message → Option BackupNumber
+backup_named (MasterDo m) = None
+backup_named (MasterDone m b) = Some b
+backup_named (BackupDo m b) = Some b
+backup_named (BackupDone m b) = Some b
+backup_named (MasterGetNewBackup m b) = Some b
+backup_named (BackupGetNewMaster m b) = Some b
+backup_named (NewBackupId m b) = Some b
+backup_named (NewMasterId m b) = Some b

@@ -1,2 +1,3 @@
 pub mod Commands
 pub mod Advance
+pub mod Names

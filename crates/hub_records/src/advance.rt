@@ -9,7 +9,7 @@ use hub_cards::{BackupNumber, Card, MasterNumber};
 use refusals::Refusal;
 
 // What a command sees of the cards: those that its message names, and the active ones.
-#[derive(Clone, Copy)]
+#[derive(Clone, Copy, Debug, PartialEq, Eq)]
 pub struct Seen {
     pub master: Card<BackupNumber>,
     pub backup: Card<MasterNumber>,
@@ -17,8 +17,9 @@ pub struct Seen {
     pub active_backup: Option<BackupNumber>,
 }
 
-// What a command's step does besides moving the command on.
-#[derive(Clone, Copy)]
+// What a command's step does besides moving the command on. `Nothing` is a case, and no Option of an Effect: it is one of the
+// five things that a step may do, and who applies them matches all five.
+#[derive(Clone, Copy, Debug, PartialEq, Eq)]
 pub enum Effect {
     Nothing,
     MasterTakes(MasterNumber),
@@ -45,6 +46,8 @@ impl Command {
     }
 
     // Moves on under the action, if the command is one that the action is for and the cards are as it needs them.
+    // By rules of the project this is one match over the pair of state and action, and moves on in place; the actions that
+    // look for an active card take the Option of its search apart.
     pub fn advance(&mut self, action: Action, seen: &Seen) -> Result<Effect, Refusal>
         ensures moves { answer_of result self.new ≡ advance_of action self.old seen.now }
         ensures refused { OnErr result (self.new ≡ self.old) }
@@ -85,17 +88,18 @@ impl Command {
                 if !seen.backup.status.is_active() {
                     return Err(Refusal::WrongCardStatus);
                 }
-                if seen.backup.partner.0 != m.0 {
+                if seen.backup.partner != m {
                     return Err(Refusal::WrongCardNumber);
                 }
                 self.wait_for(Message::BackupDone(m, b));
                 Ok(Effect::BackupTakes(b))
             }
-            ((_, Some(Message::BackupDo(m, b))), Action::DetectingOldMasterId) => {
+            ((_, Some(Message::BackupDo(m, b))), Action::DetectingOldMasterId)
+            | ((_, Some(Message::BackupGetNewMaster(m, b))), Action::GettingNewMaster) => {
                 if !seen.backup.status.is_active() {
                     return Err(Refusal::WrongCardStatus);
                 }
-                if seen.backup.partner.0 == m.0 {
+                if seen.backup.partner == m {
                     return Err(Refusal::WrongCardNumber);
                 }
                 self.wait_for(Message::NewMasterId(seen.backup.partner, b));
@@ -116,7 +120,7 @@ impl Command {
                 if !seen.master.status.is_active() {
                     return Err(Refusal::WrongCardStatus);
                 }
-                if seen.master.partner.0 == b.0 {
+                if seen.master.partner == b {
                     return Err(Refusal::WrongCardNumber);
                 }
                 self.wait_for(Message::NewBackupId(m, seen.master.partner));
@@ -132,16 +136,6 @@ impl Command {
                 self.rest(Phase::GaveUp);
                 Ok(Effect::GivesUp)
             }
-            ((_, Some(Message::BackupGetNewMaster(m, b))), Action::GettingNewMaster) => {
-                if !seen.backup.status.is_active() {
-                    return Err(Refusal::WrongCardStatus);
-                }
-                if seen.backup.partner.0 == m.0 {
-                    return Err(Refusal::WrongCardNumber);
-                }
-                self.wait_for(Message::NewMasterId(seen.backup.partner, b));
-                Ok(Effect::Nothing)
-            }
             (
                 (_, Some(Message::BackupGetNewMaster(_, _))),
                 Action::HandlingBackupGetNewMasterFailed,
@@ -151,7 +145,7 @@ impl Command {
                 }
                 match seen.active_master {
                     Some(a) => {
-                        if a.0 == self.own_master.0 {
+                        if a == self.own_master {
                             return Err(Refusal::WrongCardNumber);
                         }
                         self.own_master = a;

@@ -1,5 +1,5 @@
 -- The report is a short text.
-use Rattle.std.proofs.Common.{ℕ, ◌+◌, ◌*◌, ◌^◌, ◌<◌, ◌≤◌, eqb, List, length, ℤ, IfSome, Some, None, codes, decimal, Option, arith, length-append}
+use Rattle.std.proofs.Common.{ℕ, ◌+◌, ◌*◌, ◌^◌, ◌<◌, ◌≤◌, eqb, List, length, ℤ, IfSome, codes, decimal, arith, length-append}
 use Rattle.std.specs.List.{AllByRecursion}
 use Rattle.std.proofs.lemmas.Bool.{cond_both}
 use Rattle.registers.specs.Kind.{Fits64}
@@ -7,7 +7,7 @@ use Rattle.hub_records.specs.declared.hub.ExecState.{ExecState}
 use Rattle.hub_records.specs.declared.hub.ExecState.TheVariants.{Running, Success, Fatal}
 use Rattle.hub_records.specs.declared.look.Look.{Look}
 use Rattle.report.specs.Figures.{figures_text}
-use Rattle.report.proofs.Bounds.{length_number, length_signed, length_figures}
+use Rattle.report.proofs.Bounds.{length_number, length_mean, length_figures}
 use Rattle.hub_report.specs.ReportText.{state_name, register_text, role_text, mean_of, mean_text, look_text}
 
 -- Figures that a register can have: no more than 1,024, each of 64 bits.
@@ -32,10 +32,6 @@ name_short Running = omega arith
 name_short Success = omega arith
 name_short Fatal = omega arith
 
-mean_short : (mean : Option ℤ) → IfSome mean Fits64 → length (mean_text mean) ≤ 20
-mean_short None fits = omega arith
-mean_short (Some z) fits = length_signed z fits
-
 pub look_short : (code : ℕ) (look : Look) (master backup : List ℤ) → look.steps < 2 ^ 64 → look.losses < 2 ^ 64
     → length (role_text (codes "master") (codes "master-version") (codes "master-register") look.master.0 look.master_version master) ≤ 21585
     → length (role_text (codes "backup") (codes "backup-version") (codes "backup-register") look.backup.0 look.backup_version backup) ≤ 21585
@@ -46,5 +42,5 @@ look_short code look master backup steps losses masters backups mean =
     let name : length (state_name look.state) ≤ 7 = name_short look.state in
     let second : length (decimal look.steps) ≤ 20 = length_number look.steps steps in
     let third : length (decimal look.losses) ≤ 20 = length_number look.losses losses in
-    let average : length (mean_text (mean_of code master look.master_version)) ≤ 20 = mean_short (mean_of code master look.master_version) mean in
+    let average : length (mean_text (mean_of code master look.master_version)) ≤ 20 = length_mean (mean_of code master look.master_version) mean in
     simp length-append (omega (arith, simp length-append at masters, simp length-append at backups))

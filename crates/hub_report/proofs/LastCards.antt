@@ -1,5 +1,5 @@
 -- The last card of a role, and the figures of the card under a number.
-use Rattle.std.proofs.Common.{◌≡◌, ℕ, zero, suc, ◌-◌, ◌≤◌, true, eqb, List, [], ◌∷◌, map, length, get_or, ℤ, Some, None, Option, sym, refl, ap, ◌∙◌, arith}
+use Rattle.std.proofs.Common.{◌≡◌, ℕ, zero, suc, ◌-◌, ◌<◌, ◌≤◌, true, eqb, List, [], ◌∷◌, map, length, get_or, ℤ, IfSome, IsSome, MatchOption, Some, None, Option, Bor, sym, refl, ap, ◌∙◌, arith}
 use Rattle.std.proofs.lemmas.List.{get_or-map}
 use Rattle.std.proofs.lemmas.Bool.{cond-false, ne_eqb}
 use Rattle.hub_cards.specs.Tables.{at}
@@ -20,6 +20,12 @@ module _ {R : Type 0} (figures : R → List ℤ) where
   pub figures_at : (xs : List R) (n : ℕ) (x : R) → 1 ≤ n → n ≤ length xs → x ≡ get_or xs (n - 1) x → figures x ≡ at [] (map figures xs) n
   figures_at xs n x low high e =
       ap figures e ∙ sym (get_or-map figures xs (n - 1) x [] (omega arith)) ∙ sym (at_is_getD [] (map figures xs) n low)
+
+  -- The register at the index before it, where a look-up finds one.
+  pub register_at : (xs : List R) (n i : ℕ) (found : Option (Bor R)) → 1 ≤ n → n ≤ length xs → i ≡ n - 1 → IfSome found (λ x. x.now ≡ get_or xs i x.now) → (i < length xs → IsSome found)
+      → MatchOption found (n ≡ 0) (λ x. (0 < n) × (figures x.now ≡ at [] (map figures xs) n))
+  register_at xs n i None low high same is there = let odd = there (omega arith) in let never : ⊥ = cc in absurd never
+  register_at xs n i (Some x) low high same is there = (omega arith, figures_at xs n x.now low high (is ∙ ap (λ k. get_or xs k x.now) same))
 
   -- What is so of no figures and of every register's is so of them.
   pub at_every : (P : List ℤ → Type 0) → P [] → ((x : R) → P (figures x)) → (xs : List R) (n : ℕ) → P (at [] (map figures xs) n)

@@ -1,3 +1,5 @@
+pub mod LastCard
 pub mod ReportText
 pub mod Reporting
+pub mod Seen
 pub mod WorkedReport

@@ -1,21 +1,15 @@
 -- The report of a hub, as text: ten lines, of which three are of the last master and three of the last backup.
-use Rattle.std.specs.Prelude.{ℕ, cond, List, [], ◌∷◌, ◌++◌, ℤ, Some, None, codes, decimal, Option, ◌==◌}
-use Rattle.std.specs.Fmt.{signed_decimal}
-use Rattle.registers.specs.Mean.{mean_of_sum}
+use Rattle.std.specs.Prelude.{ℕ, cond, List, [], ◌++◌, ℤ, None, codes, decimal, Option, ◌==◌}
+pub use Rattle.registers.specs.Mean.{mean_of_first}
 use Rattle.hub_cards.specs.Tables.{at}
-use Rattle.hub_records.specs.declared.hub.ExecState.{ExecState}
-use Rattle.hub_records.specs.declared.hub.ExecState.TheVariants.{Running, Success, Fatal}
+pub use Rattle.hub_records.specs.Names.{state_name}
 use Rattle.hub_records.specs.declared.look.Look.{Look}
 use Rattle.hub_runs.specs.Hubs.{State}
 use Rattle.hub_runs.specs.Runs.{last_backup, last_master}
 use Rattle.hub.specs.Looking.{the_look}
 use Rattle.report.specs.Figures.{figures_text}
 use Rattle.report.specs.Lines.{line_text}
-
-abbrev pub state_name : ExecState → List ℕ
-state_name Running = codes "running"
-state_name Success = codes "success"
-state_name Fatal = codes "fatal"
+pub use Rattle.report.specs.Lines.{mean_text}
 
 -- What a card's register shows. Number 0 is no card, and there is no register to show.
 abbrev pub register_text : ℕ → List ℤ → List ℕ
@@ -29,16 +23,8 @@ role_text number_key version_key register_key number version figures =
     ++ line_text register_key (register_text number figures))
 
 -- The first figure over the version. Only a sum, the kind with the number 1, has a mean.
-abbrev pub mean_of_first : List ℤ → ℕ → Option ℤ
-mean_of_first [] version = None
-mean_of_first (sum ∷ rest) version = mean_of_sum sum version
-
 abbrev pub mean_of : ℕ → List ℤ → ℕ → Option ℤ
 mean_of code figures version = cond (code == 1) (mean_of_first figures version) None
-
-abbrev pub mean_text : Option ℤ → List ℕ
-mean_text None = codes "none"
-mean_text (Some z) = signed_decimal z
 
 -- The text of a look, with registers of the kind `code`; `master` and `backup` are the figures of the last cards.
 unfoldable pub look_text : (code : ℕ) → Look → (master backup : List ℤ) → List ℕ

@@ -1,7 +1,6 @@
 // The report of a hub as text, in a buffer that the caller lends.
 #![tactic(auto)]
 
-mod average;
 mod reporting;
 mod role;
 mod worked;

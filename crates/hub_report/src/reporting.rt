@@ -1,112 +1,76 @@
 // The report of a hub.
-ghost use Rattle.std.specs.Prelude.{◌≡◌, ◌^◌, ◌<◌, ◌≤◌, [], map, length};
-ghost use Rattle.hub_cards.specs.Tables.{at};
-ghost use Rattle.hub_runs.specs.States.{lent, size_of, state_in};
-ghost use Rattle.report.specs.Placed.{Writes};
-ghost use Rattle.report.specs.Printed.{Printed};
+ghost use Rattle.std.specs.Prelude.{◌≡◌};
+ghost use Rattle.registers.specs.Numbers.{code_of};
+ghost use Rattle.hub_runs.specs.States.{size_of, state_in, viewed};
+ghost use Rattle.report.specs.Writer.{PrintedBy};
 ghost use Rattle.hub_report.specs.Reporting.{Reports};
-ghost use Rattle.hub_report.specs.ReportText.{look_text, state_name};
+ghost use Rattle.hub_report.specs.Seen.{HasRegisters, text_seen};
 
-use super::average::{mean_of, write_mean};
-use super::role::write_role;
+use super::role::{Keys, LastCard};
 use hub::look;
-use hub_cards::{BackupNumber, Card, MasterNumber};
-use hub_records::commands::Command;
-use hub_records::hub::{ExecState, Hub};
+use hub_records::hub::Hub;
 use hub_records::look::Look;
+use hub_tables::tables::View;
 use refusals::Refusal;
 use registers::Register;
-use report::{put_count_line, put_line};
+use report::{Writer, print};
 
-fn name(state: ExecState) -> &'static [u8]
-    ensures { result.now ≡ state_name state }
+// All lines of what was seen of these tables, each if it fits.
+fn write_look<R: Register>(seen: &Look, tables: View<'_, R>, writer: &mut Writer<'_>)
+    requires { HasRegisters seen.now tables }
+    ensures { PrintedBy (text_seen (code_of R.kind) R.figures seen.now tables.entry) writer.old writer.new }
 {
-    match state {
-        ExecState::Running => b"running",
-        ExecState::Success => b"success",
-        ExecState::Fatal => b"fatal",
-    }
-}
-
-// All lines, each if it fits.
-fn write_look<R: Register>(
-    seen: &Look,
-    master_registers: &[R],
-    backup_registers: &[R],
-    out: &mut [u8],
-) -> usize
-    requires master { seen.now.master.0 ≤ length master_registers.now }
-    requires backup { seen.now.backup.0 ≤ length backup_registers.now }
-    ensures short { length (look_text R.code seen.now (at [] (map R.figures master_registers.now) seen.now.master.0) (at [] (map R.figures backup_registers.now) seen.now.backup.0)) < 2 ^ 64 }
-    ensures writes { Writes (look_text R.code seen.now (at [] (map R.figures master_registers.now) seen.now.master.0) (at [] (map R.figures backup_registers.now) seen.now.backup.0)) out.old 0 out.new result }
-{
-    let after_state = put_line(out, 0, b"state", name(seen.state));
-    let after_steps = put_count_line(out, after_state, b"steps", u64::from(seen.steps));
-    let after_losses = put_count_line(out, after_steps, b"losses", u64::from(seen.losses));
-    let after_master = write_role(
-        out,
-        after_losses,
-        b"master",
-        b"master-version",
-        b"master-register",
-        seen.master.0,
-        seen.master_version,
-        master_registers,
+    // Read here, both are known to be numbers of 32 bits.
+    let Look { steps, losses, .. } = *seen;
+    let master = LastCard {
+        number: seen.master.0,
+        version: seen.master_version,
+        registers: tables.master_registers,
+    };
+    let backup = LastCard {
+        number: seen.backup.0,
+        version: seen.backup_version,
+        registers: tables.backup_registers,
+    };
+    writer.put_line(b"state", seen.state.name().as_bytes());
+    writer.put_number_line(b"steps", steps);
+    writer.put_number_line(b"losses", losses);
+    master.write(
+        Keys {
+            number: b"master",
+            version: b"master-version",
+            register: b"master-register",
+        },
+        writer,
     );
-    let after_backup = write_role(
-        out,
-        after_master,
-        b"backup",
-        b"backup-version",
-        b"backup-register",
-        seen.backup.0,
-        seen.backup_version,
-        backup_registers,
+    backup.write(
+        Keys {
+            number: b"backup",
+            version: b"backup-version",
+            register: b"backup-register",
+        },
+        writer,
     );
-    let mean = mean_of(seen.master.0, seen.master_version, master_registers);
-    write_mean(out, after_backup, mean)
-}
-
-// Prints what was seen into a lent buffer, or tells how long the buffer should be.
-fn print_look<R: Register>(
-    seen: &Look,
-    master_registers: &[R],
-    backup_registers: &[R],
-    out: &mut [u8],
-) -> Result<usize, Refusal>
-    requires master { seen.now.master.0 ≤ length master_registers.now }
-    requires backup { seen.now.backup.0 ≤ length backup_registers.now }
-    ensures { Printed (look_text R.code seen.now (at [] (map R.figures master_registers.now) seen.now.master.0) (at [] (map R.figures backup_registers.now) seen.now.backup.0)) out.old result out.new }
-{
-    let needed = write_look(seen, master_registers, backup_registers, &mut []);
-    if needed > out.len() {
-        return Err(Refusal::BufferTooShort { needed });
-    }
-    Ok(write_look(seen, master_registers, backup_registers, out))
+    writer.put_mean_line(master.mean());
 }
 
 /// Prints the report of a hub to the start of `out` and gives its length; the bytes after it stay as they were. Where the
 /// tables do not fit together, or `out` is too short, the report is refused and `out` stays as it was.
 pub fn report_text<R: Register>(
     hub: &Hub,
-    commands: &[Command],
-    masters: &[Card<BackupNumber>],
-    master_registers: &[R],
-    backups: &[Card<MasterNumber>],
-    backup_registers: &[R],
+    tables: View<'_, R>,
     out: &mut [u8],
 ) -> Result<usize, Refusal>
-    ensures { Reports R.code (size_of hub.now) (state_in R.figures hub.now (lent commands.now masters.now master_registers.now backups.now backup_registers.now)) out.old result out.new }
+    ensures { Reports (code_of R.kind) (size_of hub.now) (state_in R.figures hub.now (viewed tables.entry)) out.old result out.new }
 {
-    match look(
-        hub,
-        commands,
-        masters,
-        master_registers,
-        backups,
-        backup_registers,
-    ) {
-        Ok(seen) => print_look(&seen, master_registers, backup_registers, out),
-        Err(refusal) => Err(refusal),
-    }
+    let seen = look(hub, tables)?;
+    print(
+        out,
+        |writer: &mut Writer<'_>|
+            requires { HasRegisters seen tables }
+            ensures { PrintedBy (text_seen (code_of R.kind) R.figures seen tables.entry) writer.old writer.new }
+        {
+            write_look(&seen, tables, writer);
+        },
+    )
 }

@@ -1,47 +1,65 @@
 // The lines of one role, which are of its last card.
-ghost use Rattle.std.specs.Prelude.{◌+◌, ◌≤◌, [], map, length};
-ghost use Rattle.hub_cards.specs.Tables.{at};
-ghost use Rattle.report.specs.Lines.{line_text};
-ghost use Rattle.report.specs.Placed.{Writes};
-ghost use Rattle.hub_report.specs.ReportText.{register_text, role_text};
+ghost use Rattle.std.specs.Prelude.{◌≡◌, ◌+◌, ◌^◌, ◌<◌, ◌≤◌, length, IfSome, MatchOption};
+ghost use Rattle.std.specs.Int.Signed.{mag};
+ghost use Rattle.registers.specs.Numbers.{code_of};
+ghost use Rattle.report.specs.Writer.{WrittenBy};
+ghost use Rattle.hub_report.specs.ReportText.{mean_of, role_text};
 
-use registers::Register;
-use report::{put_count_line, put_figures_line, put_line};
+use registers::{Register, mean_of};
+use report::Writer;
 
-// The figures of the register under a number; number 0 is no card.
-fn write_register<R: Register>(
-    out: &mut [u8],
-    place: usize,
-    key: &[u8],
-    number: usize,
-    registers: &[R],
-) -> usize
-    requires { number ≤ length registers.now }
-    ensures { Writes (line_text key.now (register_text number (at [] (map R.figures registers.now) number))) out.old place out.new result }
-{
-    if number == 0 {
-        put_line(out, place, key, b"none")
-    } else {
-        put_figures_line(out, place, key, &registers[number - 1])
-    }
+// The keys of a role's lines.
+#[derive(Clone, Copy)]
+pub(crate) struct Keys {
+    pub number: &'static [u8],
+    pub version: &'static [u8],
+    pub register: &'static [u8],
 }
 
-// All lines of the role, each if it fits.
-pub(crate) fn write_role<R: Register>(
-    out: &mut [u8],
-    place: usize,
-    number_key: &[u8],
-    version_key: &[u8],
-    register_key: &[u8],
-    number: usize,
-    version: u32,
-    registers: &[R],
-) -> usize
-    requires { number ≤ length registers.now }
-    ensures short { length (role_text number_key.now version_key.now register_key.now number version (at [] (map R.figures registers.now) number)) ≤ length number_key.now + length version_key.now + length register_key.now + 21550 }
-    ensures writes { Writes (role_text number_key.now version_key.now register_key.now number version (at [] (map R.figures registers.now) number)) out.old place out.new result }
-{
-    let after_number = put_count_line(out, place, number_key, number as u64);
-    let after_version = put_count_line(out, after_number, version_key, u64::from(version));
-    write_register(out, after_version, register_key, number, registers)
+// The last card of a role, as it was seen, and the registers of the role. Number 0 is no card, as in a look, and no Option: a
+// report prints the number as it stands, 0 too.
+#[derive(Drop)]
+pub(crate) struct LastCard<'r, R> {
+    pub number: usize,
+    pub version: u32,
+    pub registers: &'r [R],
+    ghost within: { number ≤ length registers.now },
+}
+
+impl<R: Register> LastCard<'_, R> {
+    ghost use Rattle.hub_report.specs.LastCard.{figures_of};
+
+    // The card's register.
+    fn register(&self) -> Option<&R>
+        ensures { MatchOption result (self.now.number ≡ 0) (λ register. (0 < self.now.number) × (R.figures register.now ≡ figures_of R.figures self.now)) }
+    {
+        self.registers.get(self.number.checked_sub(1)?)
+    }
+
+    // The mean of the moves that the card has taken.
+    pub(crate) fn mean(&self) -> Option<i64>
+        ensures fits { IfSome result (λ z. mag z < 2 ^ 63) }
+        ensures value { result ≡ mean_of (code_of R.kind) (figures_of R.figures self.now) self.now.version }
+    {
+        mean_of(R::kind(), self.register()?, self.version)
+    }
+
+    // All lines of the role, each if it fits.
+    pub(crate) fn write(&self, keys: Keys, writer: &mut Writer<'_>)
+        ensures short { length (role_text keys.number.now keys.version.now keys.register.now self.now.number self.now.version (figures_of R.figures self.now)) ≤ length keys.number.now + length keys.version.now + length keys.register.now + 21550 }
+        ensures writes { WrittenBy (role_text keys.number.now keys.version.now keys.register.now self.now.number self.now.version (figures_of R.figures self.now)) writer.old writer.new }
+    {
+        // Read here, both are known to fit their types.
+        let LastCard {
+            number,
+            version,
+            ..
+        } = *self;
+        writer.put_number_line(keys.number, number);
+        writer.put_number_line(keys.version, version);
+        match self.register() {
+            Some(register) => writer.put_figures_line(keys.register, register),
+            None => writer.put_line(keys.register, b"none"),
+        }
+    }
 }

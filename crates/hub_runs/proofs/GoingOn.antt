@@ -1,5 +1,5 @@
 -- A call takes every run on.
-use Rattle.std.proofs.Common.{◌≡◌, ℕ, true, List, [], ◌∷◌, ◌++◌, ℤ, sym, refl, ap, ◌∙◌, subst, arith}
+use Rattle.std.proofs.Common.{◌≡◌, ℕ, true, List, [], ◌∷◌, ◌++◌, ℤ, sym, refl, ap, ◌∙◌}
 use Rattle.std.proofs.lemmas.List.Sums.{fold_push}
 use Rattle.std.proofs.lemmas.Bool.{cond-true}
 use Rattle.registers.specs.Kind.{Rule}
@@ -8,7 +8,7 @@ use Rattle.hub_runs.specs.GoingOn.{AfterCalls, ByTheModule, GoesOn, Outcome}
 use Rattle.hub_runs.specs.Hubs.{Size, State}
 use Rattle.hub_runs.specs.Judging.{Answer, denied, moved, step}
 use Rattle.hub_runs.specs.Law.{Commutes}
-use Rattle.hub_runs.specs.Runs.{Limits, Call, step_call, look_call, Reply, stepped, refused, seen, Run, look_at, after_answer, after, made, begun, run_of}
+use Rattle.hub_runs.specs.Runs.{Limits, Call, step_call, look_call, Reply, seen, Run, look_at, after_answer, after, made, begun, run_of}
 use Rattle.hub_runs.proofs.OfModule.{steps_are_the_modules}
 use Rattle.hub_runs.proofs.Promised.{every_run_keeps_its_promises}
 
@@ -23,14 +23,6 @@ unfolding after_answer
 after_outcome (denied n) letter c r reply s o = (o.1, ap (λ x. r.replies ++ (x ∷ [])) (sym o.0))
 after_outcome (moved t) letter c r reply s o = (o.1, ap (λ x. r.replies ++ (x ∷ [])) (sym o.0))
 
-step_after : (size : Size) (rule : Rule) (letter c : ℕ) (r : Run) (reply : Reply) (s : State) → Outcome (step size rule letter c r.state) r.state reply s → (s ≡ (after size rule r (step_call letter c)).state) × ((after size rule r (step_call letter c)).replies ≡ r.replies ++ (reply ∷ []))
-unfolding after
-step_after size rule letter c r reply s o = after_outcome (step size rule letter c r.state) letter c r reply s o
-
-look_after : (size : Size) (rule : Rule) (r : Run) → (r.state ≡ (after size rule r look_call).state) × ((after size rule r look_call).replies ≡ r.replies ++ (seen (look_at r.state) ∷ []))
-unfolding after
-look_after size rule r = (refl, refl)
-
 module _ (start : List ℤ) (rule : Rule) (law : Commutes start rule) (size : Size) where
   -- A made hub is at the beginning of a run.
   pub begins_run : (moves : List ℤ) → Limits size moves → (s : State) → s ≡ made size start moves → AfterCalls start rule size moves [] s
@@ -43,47 +35,36 @@ module _ (start : List ℤ) (rule : Rule) (law : Commutes start rule) (size : Si
       → AfterCalls start rule size moves (calls ++ (call ∷ [])) s × ((run_of size start rule moves (calls ++ (call ∷ []))).replies ≡ (run_of size start rule moves calls).replies ++ (reply ∷ []))
   pushed moves calls call reply s limits e =
       let more = run_push size start rule moves calls call in (
-        record { limits = limits; is_the_runs = e.0 ∙ ap (λ (r : Run). r.state) (sym more); promised = every_run_keeps_its_promises start rule law size moves limits (calls ++ (call ∷ [])) },
-        ap (λ (r : Run). r.replies) more ∙ e.1,
+        record { limits = limits; is_the_runs = rw more e.0; promised = every_run_keeps_its_promises start rule law size moves limits (calls ++ (call ∷ [])) },
+        rw more e.1,
       )
 
   pub step_goes_on : (letter c : ℕ) (s s' : State) (reply : Reply) → Outcome (step_answer size rule letter c s) s reply s' → GoesOn start rule size s (step_call letter c) reply s'
+  unfolding after
   step_goes_on letter c s s' reply o moves calls run =
       let r = run_of size start rule moves calls in
-      let there : Outcome (step_answer size rule letter c r.state) r.state reply s' = subst (λ t. Outcome (step_answer size rule letter c t) t reply s') run.is_the_runs o in
-      let fitted : step_answer size rule letter c r.state ≡ step size rule letter c r.state = cond-true _ _ _ run.promised.tables_fit in
-      pushed moves calls (step_call letter c) reply s' run.limits (step_after size rule letter c r reply s' (subst (λ a. Outcome a r.state reply s') fitted there))
+      let there : Outcome (step_answer size rule letter c r.state) r.state reply s' = rw (← run.is_the_runs) o in
+      pushed moves calls (step_call letter c) reply s' run.limits (after_outcome (step size rule letter c r.state) letter c r reply s' (rw (cond-true _ _ _ run.promised.tables_fit) at there))
 
   pub look_goes_on : (s : State) → GoesOn start rule size s look_call (seen (look_at s)) s
-  look_goes_on s moves calls run =
-      let r = run_of size start rule moves calls in
-      let seen_there = look_after size rule r in
-      pushed moves calls look_call (seen (look_at s)) s run.limits (run.is_the_runs ∙ seen_there.0, seen_there.1 ∙ ap (λ (t : State). r.replies ++ (seen (look_at t) ∷ [])) (sym run.is_the_runs))
+  unfolding after
+  look_goes_on s moves calls run = pushed moves calls look_call (seen (look_at s)) s run.limits (run.is_the_runs, rw run.is_the_runs)
 
   -- In a run no call finds a misfit.
   pub fits_in_run : (moves : List ℤ) (calls : List Call) (s : State) → AfterCalls start rule size moves calls s → state_fits size s ≡ true
-  fits_in_run moves calls s run = subst (λ t. state_fits size t ≡ true) (sym run.is_the_runs) run.promised.tables_fit
-
-never_stepped : {A : Type 0} (n : ℕ) → refused n ≡ stepped → A
-never_stepped n e = let z : ◌≡◌ {A = ℕ} 0 1 = cc in let no : ⊥ = omega arith in absurd no
-
-same_next : (s t : State) → moved s ≡ moved t → s ≡ t
-same_next s t e = cc
-
-denied_moved : {A : Type 0} (n : ℕ) (s : State) → denied n ≡ moved s → A
-denied_moved n s e = let z : ◌≡◌ {A = ℕ} 0 1 = cc in let no : ⊥ = omega arith in absurd no
+  fits_in_run moves calls s run = rw run.is_the_runs run.promised.tables_fit
 
 -- On tables that fit, a step is the module's.
 pub step_by_the_module : (size : Size) (rule : Rule) (letter c : ℕ) (s s' : State) (reply : Reply) → state_fits size s ≡ true → Outcome (step_answer size rule letter c s) s reply s' → ByTheModule size rule letter c s reply s'
 step_by_the_module size rule letter c s s' reply fits o =
-    from (step size rule letter c s) refl (subst (λ a. Outcome a s reply s') (cond-true _ _ _ fits) o)
+    from (step size rule letter c s) refl (rw (cond-true _ _ _ fits) at o)
   where
     from : (answer : Answer) → step size rule letter c s ≡ answer → Outcome answer s reply s' → ByTheModule size rule letter c s reply s'
     from (denied n) e o = record {
-      accepted = λ yes. never_stepped n (sym o.0 ∙ yes);
-      enabled = λ action next letter_is taken. denied_moved n next (sym e ∙ (steps_are_the_modules rule size letter c s next).1 action letter_is taken);
+      accepted = λ yes. absurd cc;
+      enabled = λ action next letter_is taken. absurd (cc ((steps_are_the_modules rule size letter c s next).1 action letter_is taken));
     }
     from (moved t) e o = record {
       accepted = λ yes. (steps_are_the_modules rule size letter c s s').0 (e ∙ ap moved (sym o.1));
-      enabled = λ action next letter_is taken. (o.0, o.1 ∙ same_next t next (sym e ∙ (steps_are_the_modules rule size letter c s next).1 action letter_is taken));
+      enabled = λ action next letter_is taken. (o.0, cc ((steps_are_the_modules rule size letter c s next).1 action letter_is taken));
     }

@@ -1,7 +1,7 @@
+pub mod Made
 pub mod Places
 pub mod Times
 pub mod Keeping
-pub mod Messages
 pub mod OfModule
 pub mod WorkedRuns
 pub mod Rows

@@ -1,6 +1,7 @@
 -- Judging a step is taking the module's action: what is accepted is enabled, and what is enabled is accepted.
-use Rattle.std.proofs.Common.{◌≡◌, ℕ, ◌+◌, Bool, true, false, not, ◌&&◌, eqb, leb, ◌⊎◌, List, [], ◌∷◌, Some, None, Option, sym, refl, ap, ◌∙◌, subst, inl, inr, ⊎_elim, arith}
-use Rattle.std.proofs.lemmas.Bool.{false≢true, cases_Bool, and_parts, and_from, leb-true, le-leb, ltb-true, lt-ltb, eqb-true, eq-eqb, eqb-false, ne_eqb, not-true, not_from_false, cond-false}
+use Rattle.std.proofs.Common.{◌≡◌, ℕ, ◌+◌, Bool, true, false, not, ◌≢◌, ◌&&◌, eqb, leb, ◌⊎◌, List, [], ◌∷◌, Some, None, Option, sym, refl, ap, ◌∙◌, inl, inr, ⊎_elim, arith}
+use Rattle.std.proofs.lemmas.Bool.Decides.{nat_tests}
+use Rattle.std.proofs.lemmas.Bool.{false≢true, cases_Bool, and_parts, and_from, leb-true, le-leb, ltb-true, lt-ltb, eqb-true, eq-eqb, cond-false}
 use Rattle.registers.specs.Kind.{Rule}
 use Rattle.actions.specs.Letters.{action_of, place_of}
 use Rattle.actions.specs.declared.Action.{Action}
@@ -8,13 +9,13 @@ use Rattle.actions.specs.declared.Action.TheVariants.{Starting, MasterDoing, Han
 use Rattle.hub_records.specs.Commands.{actions_for, backup_in, is_among, is_pending, master_in}
 use Rattle.hub_cards.specs.Statuses.{is_active, is_lost}
 use Rattle.hub_cards.specs.declared.Status.{Status}
-use Rattle.hub_cards.specs.declared.Status.TheVariants.{Unused, Active, Lost}
+use Rattle.hub_cards.specs.declared.Status.TheVariants.{Active, Lost}
 use Rattle.hub_records.specs.declared.commands.Message.{Message}
 use Rattle.hub_records.specs.declared.commands.Message.TheVariants.{MasterDo, MasterDone, BackupDo, BackupDone, MasterGetNewBackup, BackupGetNewMaster, NewBackupId, NewMasterId}
 use Rattle.hub_records.specs.declared.commands.Phase.{Phase}
-use Rattle.hub_records.specs.declared.commands.Phase.TheVariants.{Pending, Working, Done, GaveUp}
+use Rattle.hub_records.specs.declared.commands.Phase.TheVariants.{Pending}
 use Rattle.hub_records.specs.declared.hub.ExecState.{ExecState}
-use Rattle.hub_records.specs.declared.hub.ExecState.TheVariants.{Running, Success, Fatal}
+use Rattle.hub_records.specs.declared.hub.ExecState.TheVariants.{Running}
 use Rattle.hub_runs.specs.Hubs.{Size, State, client}
 use Rattle.hub_runs.specs.Judging.{Answer, denied, moved, guard, with_card, by_card, is_ready, is_numbered, may_lose, is_running, carried_out, judged, by_letter, step}
 use Rattle.hub_runs.specs.Module.{IsClient, Next, StepsAreTheModules}
@@ -22,36 +23,27 @@ use Rattle.hub_runs.specs.Module.{IsClient, Next, StepsAreTheModules}
 -- ---- the tests, by name
 
 active_is : (x : Status) → is_active x ≡ true → x ≡ Active
-active_is Unused e = absurd (false≢true e)
-active_is Active e = refl
-active_is Lost e = absurd (false≢true e)
+active_is x e = grind arith
 
 lost_is : (x : Status) → is_lost x ≡ true → x ≡ Lost
-lost_is Unused e = absurd (false≢true e)
-lost_is Active e = absurd (false≢true e)
-lost_is Lost e = refl
+lost_is x e = grind arith
 
 pending_is : (x : Phase) → is_pending x ≡ true → x ≡ Pending
-pending_is Pending e = refl
-pending_is Working e = absurd (false≢true e)
-pending_is Done e = absurd (false≢true e)
-pending_is GaveUp e = absurd (false≢true e)
+pending_is x e = grind arith
 
 running_is : (x : ExecState) → is_running x ≡ true → x ≡ Running
-running_is Running e = refl
-running_is Success e = absurd (false≢true e)
-running_is Fatal e = absurd (false≢true e)
+running_is x e = grind arith
 
-differs : (m n : ℕ) → not (eqb n m) ≡ true → m ≡ n → ⊥
-differs m n e q = eqb-false n m (not-true (eqb n m) e) (sym q)
+differs : (m n : ℕ) → not (eqb n m) ≡ true → m ≢ n
+differs m n e q = grind (arith, nat_tests)
 
-is_other : (m n : ℕ) → (m ≡ n → ⊥) → not (eqb n m) ≡ true
-is_other m n d = not_from_false (eqb n m) (ne_eqb n m (λ q. d (sym q)))
+is_other : (m n : ℕ) → m ≢ n → not (eqb n m) ≡ true
+is_other m n d = grind (arith, nat_tests)
 
 -- ---- the forms of judging
 
 never_moved : (n : ℕ) (s : State) → denied n ≡ moved s → ⊥
-never_moved n s e = let z : ◌≡◌ {A = ℕ} 0 1 = cc in omega arith
+never_moved n s e = cc
 
 led : {t s : State} → moved t ≡ moved s → s ≡ t
 led e = cc
@@ -65,18 +57,10 @@ guard_passed false n a s e = absurd (never_moved n s e)
 both_passed : (b d : Bool) (n k : ℕ) (a : Answer) (s : State) → guard b n (guard d k a) ≡ moved s → (b ≡ true) × (d ≡ true) × (a ≡ moved s)
 both_passed b d n k a s e = let g = guard_passed b n _ s e in let h = guard_passed d k a s g.1 in (g.0, h.0, h.1)
 
-guard_open : (b : Bool) (n : ℕ) (a : Answer) → b ≡ true → guard b n a ≡ a
-unfolding guard
-guard_open b n a e = ap (λ x. guard x n a) e
-
 card_found : (o : Option ℕ) (n : ℕ) (next : ℕ → Answer) (s : State) → with_card o n next ≡ moved s → (a : ℕ) × (o ≡ Some a) × (next a ≡ moved s)
 unfolding with_card
 card_found None n next s e = absurd (never_moved n s e)
 card_found (Some a) n next s e = (a, refl, e)
-
-card_there : (o : Option ℕ) (n a : ℕ) (next : ℕ → Answer) → o ≡ Some a → with_card o n next ≡ next a
-unfolding with_card
-card_there o n a next e = ap (λ x. with_card x n next) e
 
 by_card_ways : (o : Option ℕ) (without : Answer) (next : ℕ → Answer) (s : State) → by_card o without next ≡ moved s → ((o ≡ None) × (without ≡ moved s)) ⊎ ((a : ℕ) × (o ≡ Some a) × (next a ≡ moved s))
 unfolding by_card
@@ -87,35 +71,11 @@ by_card_ways (Some a) without next s e = inr (a, refl, e)
 only_without : (o : Option ℕ) (n : ℕ) (without : Answer) (s : State) → by_card o without (λ _. denied n) ≡ moved s → (o ≡ None) × (without ≡ moved s)
 only_without o n without s e = ⊎_elim (λ w. w) (λ w. absurd (never_moved n s w.2)) (by_card_ways o without _ s e)
 
-by_card_none : (o : Option ℕ) (without : Answer) (next : ℕ → Answer) → o ≡ None → by_card o without next ≡ without
-unfolding by_card
-by_card_none o without next e = ap (λ x. by_card x without next) e
-
-by_card_some : (o : Option ℕ) (a : ℕ) (without : Answer) (next : ℕ → Answer) → o ≡ Some a → by_card o without next ≡ next a
-unfolding by_card
-by_card_some o a without next e = ap (λ x. by_card x without next) e
-
 -- ---- actions by their places
 
 at_its_place : (a : Action) → action_of (place_of a + 65) ≡ Some a
 at_its_place Starting = refl
-at_its_place MasterDoing = refl
-at_its_place HandlingMasterDone = refl
-at_its_place BackupDoing = refl
-at_its_place DetectingOldMasterId = refl
-at_its_place HandlingBackupDone = refl
-at_its_place HandlingMasterDoFailed = refl
-at_its_place HandlingBackupDoFailed = refl
-at_its_place GettingNewBackup = refl
-at_its_place GettingNewMaster = refl
-at_its_place HandlingBackupGetNewMasterFailed = refl
-at_its_place HandlingMasterGetNewBackupFailed = refl
-at_its_place UpdatingBackupId = refl
-at_its_place UpdatingMasterId = refl
-at_its_place CreatingNewBackup = refl
-at_its_place CreatingNewMaster = refl
-at_its_place KillingMaster = refl
-at_its_place KillingBackup = refl
+at_its_place _ = refl
 
 same_place : (a x : Action) → place_of a ≡ place_of x → a ≡ x
 same_place a x e =
@@ -130,7 +90,7 @@ Each P (x ∷ xs) = P x × Each P xs
 among : (P : Action → Type 0) (a : Action) (xs : List Action) → is_among a xs ≡ true → Each P xs → P a
 among P a [] e each = absurd (false≢true e)
 among P a (x ∷ xs) e each =
-    ⊎_elim (λ h. subst P (sym (same_place a x (eqb-true _ _ h))) each.0)
+    ⊎_elim (λ h. rw (same_place a x (eqb-true _ _ h)) each.0)
     (λ h. among P a xs (sym (cond-false (eqb (place_of a) (place_of x)) true (is_among a xs) h) ∙ e) each.1)
     (cases_Bool (eqb (place_of a) (place_of x)))
 
@@ -204,19 +164,6 @@ module _ (size : Size) (rule : Rule) (c : ℕ) (s s' : State) where
     enabled : (a : Action) → is_numbered size a c ≡ true → may_lose size a s.killed ≡ true → is_ready a (client s c).phase (client s c).message ≡ true → Leads a (client s c).message → Next size rule a c s s'
     unfolding carried_out
     enabled Starting t k r e = (is_client t, (runs, pending_is _ r, led e))
-    enabled MasterDoing t k r e = by_message _ refl (is_client t) MasterDoing r e
-    enabled HandlingMasterDone t k r e = by_message _ refl (is_client t) HandlingMasterDone r e
-    enabled BackupDoing t k r e = by_message _ refl (is_client t) BackupDoing r e
-    enabled DetectingOldMasterId t k r e = by_message _ refl (is_client t) DetectingOldMasterId r e
-    enabled HandlingBackupDone t k r e = by_message _ refl (is_client t) HandlingBackupDone r e
-    enabled HandlingMasterDoFailed t k r e = by_message _ refl (is_client t) HandlingMasterDoFailed r e
-    enabled HandlingBackupDoFailed t k r e = by_message _ refl (is_client t) HandlingBackupDoFailed r e
-    enabled GettingNewBackup t k r e = by_message _ refl (is_client t) GettingNewBackup r e
-    enabled GettingNewMaster t k r e = by_message _ refl (is_client t) GettingNewMaster r e
-    enabled HandlingBackupGetNewMasterFailed t k r e = by_message _ refl (is_client t) HandlingBackupGetNewMasterFailed r e
-    enabled HandlingMasterGetNewBackupFailed t k r e = by_message _ refl (is_client t) HandlingMasterGetNewBackupFailed r e
-    enabled UpdatingBackupId t k r e = by_message _ refl (is_client t) UpdatingBackupId r e
-    enabled UpdatingMasterId t k r e = by_message _ refl (is_client t) UpdatingMasterId r e
     enabled CreatingNewBackup t k r e =
         let f = card_found _ _ _ _ e in
         let w = only_without _ _ _ _ f.2 in
@@ -231,6 +178,7 @@ module _ (size : Size) (rule : Rule) (c : ℕ) (s s' : State) where
         (eqb-true _ _ t, (f.0, l.0, runs, w.0, f.1, l.1, leb-true _ _ g.0, led g.1))
     enabled KillingMaster t k r e = let f = card_found _ _ _ _ e in (eqb-true _ _ t, (f.0, runs, ltb-true _ _ k, f.1, led f.2))
     enabled KillingBackup t k r e = let f = card_found _ _ _ _ e in (eqb-true _ _ t, (f.0, runs, ltb-true _ _ k, f.1, led f.2))
+    enabled a t k r e = by_message _ refl (is_client t) a r e
 
   of_letter : (o : Option Action) → s.exec_state ≡ Running → by_letter size rule o c s ≡ moved s' → (a : Action) × (o ≡ Some a) × Next size rule a c s s'
   unfolding by_letter judged
@@ -248,53 +196,34 @@ module _ (size : Size) (rule : Rule) (c : ℕ) (s s' : State) where
 
   module _ (letter : ℕ) where
     opened : (a : Action) (msg : Option Message) → action_of letter ≡ Some a → s.exec_state ≡ Running → is_numbered size a c ≡ true → may_lose size a s.killed ≡ true → (client s c).message ≡ msg → is_ready a (client s c).phase msg ≡ true → Leads a msg → step size rule letter c s ≡ moved s'
-    unfolding step by_letter judged
-    opened a msg named runs t k h r e =
-        guard_open _ _ _ (ap is_running runs) ∙ (ap (λ o. by_letter size rule o c s) named
-        ∙ (guard_open _ _ _ t ∙ (guard_open _ _ _ k ∙ (guard_open _ _ _ (ap (is_ready a (client s c).phase) h ∙ r)
-        ∙ (ap (λ x. carried_out size rule a c (master_in x) (backup_in x) s) h ∙ e)))))
+    unfolding step by_letter judged guard
+    opened a msg named runs t k h r e = rw (ap is_running runs, named, t, k, h, r) e
 
     numbered : IsClient size c → (leb 1 c && leb c size.client_num) ≡ true
     numbered n = and_from _ _ (le-leb _ _ n.0) (le-leb _ _ n.1)
 
-    to : {t : State} → s' ≡ t → moved t ≡ moved s'
-    to e = ap moved (sym e)
-
     enabled_is_accepted : (a : Action) → action_of letter ≡ Some a → Next size rule a c s s' → step size rule letter c s ≡ moved s'
-    unfolding carried_out
-    enabled_is_accepted Starting l (n, (runs, p, e)) = opened Starting _ l runs (numbered n) refl refl (ap is_pending p) (to e)
-    enabled_is_accepted MasterDoing l (n, (m, runs, h, a, e)) = opened MasterDoing _ l runs (numbered n) refl h refl (guard_open _ _ _ (ap is_active a) ∙ to e)
-    enabled_is_accepted HandlingMasterDone l (n, (m, b, runs, h, e)) = opened HandlingMasterDone _ l runs (numbered n) refl h refl (to e)
-    enabled_is_accepted BackupDoing l (n, (m, b, runs, h, a, q, e)) =
-        opened BackupDoing _ l runs (numbered n) refl h refl (guard_open _ _ _ (ap is_active a) ∙ (guard_open _ _ _ (eq-eqb _ _ (sym q)) ∙ to e))
-    enabled_is_accepted DetectingOldMasterId l (n, (m, b, runs, h, a, d, e)) =
-        opened DetectingOldMasterId _ l runs (numbered n) refl h refl (guard_open _ _ _ (ap is_active a) ∙ (guard_open _ _ _ (is_other _ _ d) ∙ to e))
-    enabled_is_accepted HandlingBackupDone l (n, (m, b, runs, h, e)) = opened HandlingBackupDone _ l runs (numbered n) refl h refl (to e)
+    unfolding carried_out guard with_card by_card
+    enabled_is_accepted Starting l (n, (runs, p, e)) = opened Starting _ l runs (numbered n) refl refl (ap is_pending p) (rw e)
+    enabled_is_accepted MasterDoing l (n, (m, runs, h, a, e)) = opened MasterDoing _ l runs (numbered n) refl h refl (rw (e, a))
+    enabled_is_accepted HandlingMasterDone l (n, (m, b, runs, h, e)) = opened HandlingMasterDone _ l runs (numbered n) refl h refl (rw e)
+    enabled_is_accepted BackupDoing l (n, (m, b, runs, h, a, q, e)) = opened BackupDoing _ l runs (numbered n) refl h refl (rw (e, a, eq-eqb _ _ (sym q)))
+    enabled_is_accepted DetectingOldMasterId l (n, (m, b, runs, h, a, d, e)) = opened DetectingOldMasterId _ l runs (numbered n) refl h refl (rw (e, a, is_other _ _ d))
+    enabled_is_accepted HandlingBackupDone l (n, (m, b, runs, h, e)) = opened HandlingBackupDone _ l runs (numbered n) refl h refl (rw e)
     enabled_is_accepted HandlingMasterDoFailed l (n, (m, runs, h, a, w)) =
-        opened HandlingMasterDoFailed _ l runs (numbered n) refl h refl (guard_open _ _ _ (ap is_lost a)
-        ∙ ⊎_elim (λ v. by_card_none _ _ _ v.0 ∙ to v.1) (λ v. by_card_some _ _ _ _ v.1 ∙ to v.2) w)
-    enabled_is_accepted HandlingBackupDoFailed l (n, (m, b, runs, h, a, e)) =
-        opened HandlingBackupDoFailed _ l runs (numbered n) refl h refl (guard_open _ _ _ (ap is_lost a) ∙ to e)
-    enabled_is_accepted GettingNewBackup l (n, (m, b, runs, h, a, d, e)) =
-        opened GettingNewBackup _ l runs (numbered n) refl h refl (guard_open _ _ _ (ap is_active a) ∙ (guard_open _ _ _ (is_other _ _ d) ∙ to e))
-    enabled_is_accepted GettingNewMaster l (n, (m, b, runs, h, a, d, e)) =
-        opened GettingNewMaster _ l runs (numbered n) refl h refl (guard_open _ _ _ (ap is_active a) ∙ (guard_open _ _ _ (is_other _ _ d) ∙ to e))
+        opened HandlingMasterDoFailed _ l runs (numbered n) refl h refl (⊎_elim (λ v. rw (v.1, a, v.0)) (λ v. rw (v.2, a, v.1)) w)
+    enabled_is_accepted HandlingBackupDoFailed l (n, (m, b, runs, h, a, e)) = opened HandlingBackupDoFailed _ l runs (numbered n) refl h refl (rw (e, a))
+    enabled_is_accepted GettingNewBackup l (n, (m, b, runs, h, a, d, e)) = opened GettingNewBackup _ l runs (numbered n) refl h refl (rw (e, a, is_other _ _ d))
+    enabled_is_accepted GettingNewMaster l (n, (m, b, runs, h, a, d, e)) = opened GettingNewMaster _ l runs (numbered n) refl h refl (rw (e, a, is_other _ _ d))
     enabled_is_accepted HandlingBackupGetNewMasterFailed l (n, (m, b, runs, h, a, w)) =
-        opened HandlingBackupGetNewMasterFailed _ l runs (numbered n) refl h refl (guard_open _ _ _ (ap is_lost a)
-        ∙ ⊎_elim (λ v. by_card_none _ _ _ v.0 ∙ to v.1)
-        (λ v. by_card_some _ _ _ _ v.1 ∙ (guard_open _ _ _ (is_other _ _ (λ q. v.2 (sym q))) ∙ to v.3)) w)
-    enabled_is_accepted HandlingMasterGetNewBackupFailed l (n, (m, b, runs, h, a, e)) =
-        opened HandlingMasterGetNewBackupFailed _ l runs (numbered n) refl h refl (guard_open _ _ _ (ap is_lost a) ∙ to e)
-    enabled_is_accepted UpdatingBackupId l (n, (m, b, runs, h, e)) = opened UpdatingBackupId _ l runs (numbered n) refl h refl (to e)
-    enabled_is_accepted UpdatingMasterId l (n, (m, b, runs, h, e)) = opened UpdatingMasterId _ l runs (numbered n) refl h refl (to e)
-    enabled_is_accepted CreatingNewBackup l (z, (a, k, runs, f, w, o, r, e)) =
-        opened CreatingNewBackup _ l runs (eq-eqb _ _ z) refl refl refl
-        (card_there _ _ _ _ f ∙ (by_card_none _ _ _ w ∙ (card_there _ _ _ _ o ∙ (guard_open _ _ _ (le-leb _ _ r) ∙ to e))))
-    enabled_is_accepted CreatingNewMaster l (z, (a, k, runs, w, f, o, r, e)) =
-        opened CreatingNewMaster _ l runs (eq-eqb _ _ z) refl refl refl
-        (card_there _ _ _ _ f ∙ (by_card_none _ _ _ w ∙ (card_there _ _ _ _ o ∙ (guard_open _ _ _ (le-leb _ _ r) ∙ to e))))
-    enabled_is_accepted KillingMaster l (z, (a, runs, few, f, e)) = opened KillingMaster _ l runs (eq-eqb _ _ z) (lt-ltb _ _ few) refl refl (card_there _ _ _ _ f ∙ to e)
-    enabled_is_accepted KillingBackup l (z, (a, runs, few, f, e)) = opened KillingBackup _ l runs (eq-eqb _ _ z) (lt-ltb _ _ few) refl refl (card_there _ _ _ _ f ∙ to e)
+        opened HandlingBackupGetNewMasterFailed _ l runs (numbered n) refl h refl (⊎_elim (λ v. rw (v.1, a, v.0)) (λ v. rw (v.3, a, v.1, is_other _ _ (λ q. v.2 (sym q)))) w)
+    enabled_is_accepted HandlingMasterGetNewBackupFailed l (n, (m, b, runs, h, a, e)) = opened HandlingMasterGetNewBackupFailed _ l runs (numbered n) refl h refl (rw (e, a))
+    enabled_is_accepted UpdatingBackupId l (n, (m, b, runs, h, e)) = opened UpdatingBackupId _ l runs (numbered n) refl h refl (rw e)
+    enabled_is_accepted UpdatingMasterId l (n, (m, b, runs, h, e)) = opened UpdatingMasterId _ l runs (numbered n) refl h refl (rw e)
+    enabled_is_accepted CreatingNewBackup l (z, (a, k, runs, f, w, o, r, e)) = opened CreatingNewBackup _ l runs (eq-eqb _ _ z) refl refl refl (rw (e, f, w, o, le-leb _ _ r))
+    enabled_is_accepted CreatingNewMaster l (z, (a, k, runs, w, f, o, r, e)) = opened CreatingNewMaster _ l runs (eq-eqb _ _ z) refl refl refl (rw (e, f, w, o, le-leb _ _ r))
+    enabled_is_accepted KillingMaster l (z, (a, runs, few, f, e)) = opened KillingMaster _ l runs (eq-eqb _ _ z) (lt-ltb _ _ few) refl refl (rw (e, f))
+    enabled_is_accepted KillingBackup l (z, (a, runs, few, f, e)) = opened KillingBackup _ l runs (eq-eqb _ _ z) (lt-ltb _ _ few) refl refl (rw (e, f))
 
 pub steps_are_the_modules : (rule : Rule) → StepsAreTheModules rule
 steps_are_the_modules rule size letter c s s' = (accepted_is_enabled size rule c s s' letter, enabled_is_accepted size rule c s s' letter)

@@ -1,5 +1,5 @@
 -- The order in which a card took its commands does not matter to its figures.
-use Rattle.std.proofs.Common.{◌≡◌, ℕ, zero, suc, ◌≤◌, false, cond, ◌&&◌, eqb, leb, List, [], ◌∷◌, ◌++◌, length, get_or, take, ℤ, pos, fold, sym, refl, ap, ◌∙◌, subst, ⊎_elim, add-one, arith}
+use Rattle.std.proofs.Common.{◌≡◌, ℕ, zero, suc, ◌≤◌, false, cond, ◌&&◌, eqb, leb, List, [], ◌∷◌, ◌++◌, length, get_or, take, ℤ, pos, fold, sym, refl, ap, ◌∙◌, ⊎_elim, add-one, arith}
 use Rattle.std.specs.List.{AllByRecursion}
 use Rattle.std.proofs.ByRecursion.{All-get_or}
 use Rattle.std.proofs.lemmas.List.{get_or_past, take_all}
@@ -13,12 +13,12 @@ use Rattle.hub_runs.specs.Promises.{times, Holds, NoRepeats, move_of, figures_of
 use Rattle.hub_runs.proofs.Times.{times-append, times_here, times_other}
 
 -- a number that no command has stands for a move of 0, which is in range too
-move_in_range : (moves : List ℤ) → AllByRecursion InRange moves → (c : ℕ) → InRange (move_of moves c)
+pub move_in_range : (moves : List ℤ) → AllByRecursion InRange moves → (c : ℕ) → InRange (move_of moves c)
 move_in_range moves ranged zero = omega arith
 move_in_range moves ranged (suc i) =
     ⊎_elim
     (λ within. All-get_or InRange moves i (pos 0) within ranged)
-    (λ past. subst InRange (sym (get_or_past moves i (pos 0) past)) (omega arith))
+    (λ past. rw (get_or_past moves i (pos 0) past) (omega arith))
     (cases_lt i (length moves))
 
 -- a list without the first place that holds a command
@@ -32,7 +32,7 @@ held_later c y ys ne holds = omega (arith, times_other c y ys (eqb-false c y ne)
 
 times_without : (c d : ℕ) (ys : List ℕ) → 1 ≤ times c ys → times d (c ∷ without c ys) ≡ times d ys
 unfolding times
-times_without c d [] holds = let z : ⊥ = omega arith in absurd z
+times_without c d [] holds = absurd (omega arith)
 times_without c d (y ∷ ys) holds =
     cond_both (eqb c y) ys (y ∷ without c ys) (λ rest. times d (c ∷ rest) ≡ times d (y ∷ ys))
     (λ e. ap (λ k. times d (k ∷ ys)) (eqb-true c y e))
@@ -42,7 +42,7 @@ module _ (start : List ℤ) (rule : Rule) (moves : List ℤ) (law : Commutes sta
   -- a command that a list holds may as well be taken first
   taken_first : (c : ℕ) (ys : List ℕ) (f : List ℤ) → Reached start rule f → 1 ≤ times c ys → figures_of f rule moves ys ≡ figures_of f rule moves (c ∷ without c ys)
   unfolding times
-  taken_first c [] f reached holds = let z : ⊥ = omega arith in absurd z
+  taken_first c [] f reached holds = absurd (omega arith)
   taken_first c (y ∷ ys) f reached holds =
       let t = move_in_range moves ranged y in
       cond_both (eqb c y) ys (y ∷ without c ys) (λ rest. figures_of f rule moves (y ∷ ys) ≡ figures_of f rule moves (c ∷ rest))
@@ -54,7 +54,7 @@ module _ (start : List ℤ) (rule : Rule) (moves : List ℤ) (law : Commutes sta
   same_figures : (xs ys : List ℕ) (f : List ℤ) → Reached start rule f → ((c : ℕ) → times c xs ≡ times c ys) → figures_of f rule moves xs ≡ figures_of f rule moves ys
   unfolding times
   same_figures [] [] f reached same = refl
-  same_figures [] (y ∷ ys) f reached same = let z : ⊥ = omega (arith, same y, times_here y ys) in absurd z
+  same_figures [] (y ∷ ys) f reached same = absurd (omega (arith, same y, times_here y ys))
   same_figures (x ∷ xs) ys f reached same =
       let holds : 1 ≤ times x ys = omega (arith, same x, times_here x xs) in
       same_figures xs (without x ys) (rule f (move_of moves x)) (after_move reached (move_in_range moves ranged x))

@@ -1,166 +1,184 @@
 -- The cards of a role in numbers: those up to l are lost, then there is the active one, if any, and the others are unused.
 -- One set of lemmas serves masters and backups.
-use Rattle.std.proofs.Common.{◌≡◌, ℕ, zero, suc, ◌+◌, ◌-◌, ◌<◌, ◌≤◌, true, false, cond, ltb, ◌≢◌, List, length, get_or, replicate, Some, None, Option, sym, refl, ap, ◌∙◌, ⊎_elim, arith}
+use Rattle.std.proofs.Common.{◌≡◌, ℕ, ◌+◌, ◌≤◌, true, cond, leb, ◌≢◌, ◌⊎◌, List, length, Some, None, Option, sym, refl, ap, ◌∙◌, inl, inr, ⊎_elim, arith}
 use Rattle.std.proofs.lemmas.Bool.{cases_eq, cases_lt}
 use Rattle.std.proofs.lemmas.Bool.Decides.{nat_tests}
-use Rattle.hub_cards.specs.Statuses.{is_active, is_lost, is_used}
+use Rattle.hub_cards.specs.Statuses.{is_used}
 use Rattle.hub_tables.specs.Search.{active_card, last_lost, last_card}
 use Rattle.hub_tables.specs.SearchLaws.{status_at}
-use Rattle.hub_cards.specs.Tables.{put, blank_card}
+use Rattle.hub_cards.specs.Tables.{at, put, blank_card}
+use Rattle.hub_cards.specs.declared.BackupNumber.{BackupNumber}
 use Rattle.hub_cards.specs.declared.Card.{Card}
+use Rattle.hub_cards.specs.declared.MasterNumber.{MasterNumber}
 use Rattle.hub_cards.specs.declared.Status.{Status}
 use Rattle.hub_cards.specs.declared.Status.TheVariants.{Unused, Active, Lost}
-use Rattle.hub_tables.proofs.Searches.{active_card_is, active_card_none, last_lost_is, last_lost_highest, last_card_is, last_card_none, last_card_highest}
-use Rattle.hub_runs.specs.Runs.{number, first_card}
-use Rattle.hub_runs.proofs.Places.{at_put_same, at_put_other, at_past}
+use Rattle.hub_tables.proofs.Searches.{active_card_is, active_card_none, last_lost_is, last_lost_none, last_lost_highest, last_card_is, last_card_none, last_card_highest}
+use Rattle.hub_runs.specs.Hubs.{has_status, has_partner, has_taken}
+use Rattle.hub_runs.specs.Runs.{number as number_of, first_card}
+use Rattle.hub_runs.proofs.Made.{first_cards_long, each_first}
+use Rattle.hub_runs.proofs.Places.{at_put_same, at_put_other, at_put_like, length-put, at_past}
 
 -- Statuses as numbers, so that arithmetic can compare them.
-abbrev pub code : Status → ℕ
+abbrev code : Status → ℕ
 code Unused = 0
 code Active = 1
 code Lost = 2
 
-abbrev pub shape : ℕ → ℕ → ℕ → ℕ
-shape l a zero = 0
-shape l a (suc j) = cond (ltb j l) 2 (cond (ltb j (l + a)) 1 0)
+abbrev shape : ℕ → ℕ → ℕ → ℕ
+shape l a i = cond (leb i 0) 0 (cond (leb i l) 2 (cond (leb i (l + a)) 1 0))
 
-pub active_code : (s : Status) → is_active s ≡ true → code s ≡ 1
-active_code Unused e = let z : ◌≡◌ {A = ℕ} 0 1 = cc in z
-active_code Active e = refl
-active_code Lost e = let z : ◌≡◌ {A = ℕ} 2 1 = cc in z
+-- Whether a search answered.
+pub answered : (o : Option ℕ) → (o ≡ None) ⊎ ((n : ℕ) × (o ≡ Some n))
+answered None = inl refl
+answered (Some n) = inr (n, refl)
 
-pub lost_code : (s : Status) → is_lost s ≡ true → code s ≡ 2
-lost_code Unused e = let z : ◌≡◌ {A = ℕ} 0 2 = cc in z
-lost_code Active e = let z : ◌≡◌ {A = ℕ} 1 2 = cc in z
-lost_code Lost e = refl
+-- The numbers of cards as they stand in partners.
+abbrev pub of_backup : BackupNumber → ℕ
+of_backup b = b.0
 
-pub not_active_code : (s : Status) → is_active s ≡ false → code s ≢ 1
-not_active_code Unused e = λ h. omega arith
-not_active_code Active e = let z : ◌≡◌ {A = ℕ} 0 1 = cc in λ h. omega arith
-not_active_code Lost e = λ h. omega arith
+abbrev pub of_master : MasterNumber → ℕ
+of_master m = m.0
 
-pub not_lost_code : (s : Status) → is_lost s ≡ false → code s ≢ 2
-not_lost_code Unused e = λ h. omega arith
-not_lost_code Active e = λ h. omega arith
-not_lost_code Lost e = let z : ◌≡◌ {A = ℕ} 0 1 = cc in λ h. omega arith
+-- A role with a table of so many places, of which l are lost and a, 0 or 1, is active, and whose active card has this
+-- partner; `number` gives a partner's number.
+pub record Role {P : Type 0} (number : P → ℕ) (none : P) (places : ℕ) (cards : List (Card P)) (l a partner : ℕ) : Type 0 where
+  pub one : a ≤ 1
+  pub some : 1 ≤ l + a
+  pub long : length cards ≡ places
+  pub shaped : (i : ℕ) → code (status_at none cards i) ≡ shape l a i
+  pub paired : a ≡ 1 → number (at (blank_card none) cards (l + 1)).partner ≡ partner
 
-pub used_code : (s : Status) → is_used s ≡ true → 1 ≤ code s
-used_code Unused e = let z : ◌≡◌ {A = ℕ} 0 1 = cc in omega arith
-used_code Active e = omega arith
-used_code Lost e = omega arith
+-- What a status or a search says of the numbers.
+module _ {P : Type 0} {number : P → ℕ} {none : P} {places : ℕ} {cards : List (Card P)} {l a partner : ℕ} (role : Role number none places cards l a partner) where
+  pub is_last : (i : ℕ) → status_at none cards i ≡ Active → (a ≡ 1) × (i ≡ l + 1)
+  is_last i e = let h : 1 ≡ shape l a i = sym (ap code e) ∙ role.shaped i in let one = role.one in (grind (arith, nat_tests), grind (arith, nat_tests))
 
-pub not_used_code : (s : Status) → is_used s ≡ false → code s ≡ 0
-not_used_code Unused e = refl
-not_used_code Active e = let z : ◌≡◌ {A = ℕ} 1 0 = cc in z
-not_used_code Lost e = let z : ◌≡◌ {A = ℕ} 2 0 = cc in z
+  pub pairs : (i : ℕ) → status_at none cards i ≡ Active → number (at (blank_card none) cards i).partner ≡ partner
+  pairs i e = let last = is_last i e in rw last.1 (role.paired last.0)
 
-pub code_active : (s : Status) → code s ≡ 1 → s ≡ Active
-code_active Unused e = let z : ⊥ = omega arith in absurd z
-code_active Active e = refl
-code_active Lost e = let z : ⊥ = omega arith in absurd z
+  pub is_gone : (i : ℕ) → status_at none cards i ≡ Lost → (1 ≤ i) × (i ≤ l)
+  is_gone i e = let h : 2 ≡ shape l a i = sym (ap code e) ∙ role.shaped i in (grind (arith, nat_tests), grind (arith, nat_tests))
 
-pub code_lost : (s : Status) → code s ≡ 2 → s ≡ Lost
-code_lost Unused e = let z : ⊥ = omega arith in absurd z
-code_lost Active e = let z : ⊥ = omega arith in absurd z
-code_lost Lost e = refl
+  pub used_place : (i : ℕ) → is_used (status_at none cards i) ≡ true → (1 ≤ i) × (i ≤ l + a)
+  used_place i e = let h = role.shaped i in (grind (arith, nat_tests), grind (arith, nat_tests))
 
--- The shape at each kind of place.
-pub shape_one : (l a i : ℕ) → a ≤ 1 → shape l a i ≡ 1 → (a ≡ 1) × (i ≡ l + 1)
-shape_one l a zero h e = let z : ⊥ = omega arith in absurd z
-shape_one l a (suc j) h e = (grind (arith, nat_tests), grind (arith, nat_tests))
+  pub gone : (i : ℕ) → 1 ≤ i → i ≤ l → status_at none cards i ≡ Lost
+  gone i low high = let h = role.shaped i in grind (arith, nat_tests)
 
-pub shape_two : (l a i : ℕ) → shape l a i ≡ 2 → (1 ≤ i) × (i ≤ l)
-shape_two l a zero e = let z : ⊥ = omega arith in absurd z
-shape_two l a (suc j) e = (omega arith, grind (arith, nat_tests))
+  pub stands : a ≡ 1 → status_at none cards (l + 1) ≡ Active
+  stands active = let h = role.shaped (l + 1) in grind (arith, nat_tests)
 
-pub two_shape : (l a i : ℕ) → 1 ≤ i → i ≤ l → shape l a i ≡ 2
-two_shape l a zero low high = let z : ⊥ = omega arith in absurd z
-two_shape l a (suc j) low high = grind (arith, nat_tests)
-
-pub one_shape : (l a i : ℕ) → a ≡ 1 → i ≡ l + 1 → shape l a i ≡ 1
-one_shape l a zero active last = let z : ⊥ = omega arith in absurd z
-one_shape l a (suc j) active last = grind (arith, nat_tests)
-
-pub used_shape : (l a i : ℕ) → 1 ≤ shape l a i → (1 ≤ i) × (i ≤ l + a)
-used_shape l a zero e = let z : ⊥ = omega arith in absurd z
-used_shape l a (suc j) e = (omega arith, grind (arith, nat_tests))
-
-pub shape_used : (l a i : ℕ) → 1 ≤ i → i ≤ l + a → shape l a i ≢ 0
-shape_used l a zero low high = λ e. omega arith
-shape_used l a (suc j) low high = λ e. grind (arith, nat_tests)
-
-abbrev pub Role : {P : Type 0} → P → List (Card P) → ℕ → ℕ → Type 0
-Role p cards l a = (i : ℕ) → code (status_at p cards i) ≡ shape l a i
-
--- What a guard or a search says of the numbers.
-module _ {P : Type 0} (p : P) (cards : List (Card P)) (l a : ℕ) (one : a ≤ 1) (role : Role p cards l a) where
-  pub active_is : (i : ℕ) → is_active (status_at p cards i) ≡ true → (a ≡ 1) × (i ≡ l + 1)
-  active_is i e = shape_one l a i one (sym (role i) ∙ active_code _ e)
-
-  pub lost_is : (i : ℕ) → is_lost (status_at p cards i) ≡ true → (1 ≤ i) × (i ≤ l)
-  lost_is i e = shape_two l a i (sym (role i) ∙ lost_code _ e)
+  -- A card up to the last is lost, or it is the active one.
+  pub lost_or_active : (i : ℕ) → 1 ≤ i → i ≤ l + a → ((status_at none cards i ≡ Lost) × (i ≤ l)) ⊎ ((status_at none cards i ≡ Active) × (a ≡ 1) × (i ≡ l + 1))
+  lost_or_active i low high = elim (cases_lt l i) [
+    | inl above ↦
+        let one = role.one in
+        let active : a ≡ 1 = omega arith in
+        let last : i ≡ l + 1 = omega arith in
+        inr (rw last (stands active), active, last)
+    | inr up_to ↦ inl (gone i low up_to, up_to)
+  ]
 
   pub found_active : (n : ℕ) → active_card cards ≡ Some n → (a ≡ 1) × (n ≡ l + 1)
-  found_active n e = active_is n (active_card_is p cards n e).0
+  found_active n e = let passes = (active_card_is none cards n e).0 in is_last n (grind arith)
 
   pub none_active : active_card cards ≡ None → a ≡ 0
-  none_active e =
-      let never : a ≡ 1 → ⊥ = λ h. not_active_code _ (active_card_none p cards e (l + 1)) (role (l + 1) ∙ one_shape l a (l + 1) h refl) in
-      ⊎_elim (λ h. absurd (never h)) (λ h. omega arith) (cases_eq a 1)
+  none_active e = let no = active_card_none none cards e (l + 1) in let h = role.shaped (l + 1) in let one = role.one in grind (arith, nat_tests)
 
   pub found_lost : (n : ℕ) → last_lost cards ≡ Some n → n ≡ l
   found_lost n e =
-      let low = lost_is n (last_lost_is p cards n e).0 in
-      let none_above : n < l → ⊥ = λ h. not_lost_code _ (last_lost_highest p cards n e l h) (role l ∙ two_shape l a l (omega arith) (omega arith)) in
-      ⊎_elim (λ h. absurd (none_above h)) (λ h. omega arith) (cases_lt n l)
+      let low = is_gone n (grind (arith, (last_lost_is none cards n e).0)) in
+      let above = last_lost_highest none cards n e l in
+      let last = gone l in
+      grind (arith, nat_tests)
 
-  pub last_is : 1 ≤ l + a → number (last_card cards) ≡ l + a
-  last_is some = from_answer (last_card cards) refl
-    where
-      from_answer : (o : Option ℕ) → last_card cards ≡ o → number o ≡ l + a
-      from_answer None e = absurd (shape_used l a (l + a) some (omega arith) (sym (role (l + a)) ∙ not_used_code _ (last_card_none p cards e (l + a))))
-      from_answer (Some n) e =
-          let at_most = used_shape l a n (rw (← role n) (used_code _ (last_card_is p cards n e).0)) in
-          let none_above : n < l + a → ⊥ = λ h. shape_used l a (l + a) some (omega arith) (sym (role (l + a)) ∙ not_used_code _ (last_card_highest p cards n e (l + a) h)) in
-          ⊎_elim (λ h. absurd (none_above h)) (λ h. omega arith) (cases_lt n (l + a))
+  -- The searches answer where there is such a card.
+  pub active_there : a ≡ 1 → (n : ℕ) × (active_card cards ≡ Some n) × (n ≡ l + 1)
+  active_there active = elim (answered (active_card cards)) [
+    | inl e ↦ absurd (omega (arith, none_active e))
+    | inr some ↦ (some.0, some.1, (found_active some.0 some.1).1)
+  ]
 
-  pub is_last : (i : ℕ) → status_at p cards i ≡ Active → (a ≡ 1) × (i ≡ l + 1)
-  is_last i e = shape_one l a i one (sym (role i) ∙ ap code e)
+  pub none_there : a ≡ 0 → active_card cards ≡ None
+  none_there none = elim (answered (active_card cards)) [
+    | inl e ↦ e
+    | inr some ↦ absurd (omega (arith, (found_active some.0 some.1).0))
+  ]
 
-  pub gone : (i : ℕ) → 1 ≤ i → i ≤ l → status_at p cards i ≡ Lost
-  gone i low high = code_lost _ (role i ∙ two_shape l a i low high)
+  pub lost_there : 1 ≤ l → last_lost cards ≡ Some l
+  lost_there low = elim (answered (last_lost cards)) [
+    | inl e ↦ let no = last_lost_none none cards e l in let last = gone l low in absurd (grind (arith, nat_tests))
+    | inr some ↦ some.1 ∙ ap Some (found_lost some.0 some.1)
+  ]
 
-  -- One lemma for every step that writes a card.
-  pub role_put : (n : ℕ) (card : Card P) (l' a' : ℕ) → 1 ≤ n → n ≤ length cards → code card.status ≡ shape l' a' n → ((i : ℕ) → n ≢ i → shape l a i ≡ shape l' a' i) → Role p (put cards n card) l' a'
-  role_put n card l' a' low high here others i =
+  pub last_is : number_of (last_card cards) ≡ l + a
+  last_is =
+      let here = role.shaped (l + a) in
+      let low = role.some in
+      elim (answered (last_card cards)) [
+        | inl e ↦ let no = last_card_none none cards e (l + a) in absurd (grind (arith, nat_tests))
+        | inr some ↦
+            let within = used_place some.0 (last_card_is none cards some.0 some.1).0 in
+            let above = last_card_highest none cards some.0 some.1 (l + a) in
+            ap number_of some.1 ∙ grind (arith, nat_tests)
+      ]
+
+  -- A table has room for its role.
+  pub role_fits : l + a ≤ places
+  role_fits =
       ⊎_elim
-      (λ same. rw (← same) (ap (λ x. code x.status) (at_put_same (blank_card p) card cards n low high) ∙ here))
-      (λ apart. ap (λ x. code x.status) (at_put_other (blank_card p) card cards n i apart) ∙ role i ∙ others i apart)
-      (cases_eq n i)
+      (λ past. let h = role.shaped (l + a) in let e = at_past (blank_card none) cards (l + a) (omega (arith, role.long)) in let some = role.some in absurd (grind (arith, nat_tests)))
+      (λ fits. fits)
+      (cases_lt places (l + a))
 
--- A table has room for its role.
-pub role_fits : {P : Type 0} (p : P) (cards : List (Card P)) (l a : ℕ) → Role p cards l a → l + a ≤ length cards
-role_fits p cards l a role =
-    ⊎_elim
-    (λ past. absurd (shape_used l a (l + a) (omega arith) (omega arith) (sym (role (l + a)) ∙ ap (λ x. code x.status) (at_past (blank_card p) cards (l + a) past))))
-    (λ fits. fits)
-    (cases_lt (length cards) (l + a))
+  -- The ways in which a role changes: it becomes one of this shape, by a card that is written in its table.
+  role_put : (i : ℕ) (card : Card P) (l' a' partner' : ℕ) → a' ≤ 1 → 1 ≤ l' + a' → 1 ≤ i → i ≤ places → code card.status ≡ shape l' a' i → ((j : ℕ) → i ≢ j → shape l a j ≡ shape l' a' j) → (a' ≡ 1 → (i ≡ l' + 1) × (number card.partner ≡ partner')) → Role number none places (put cards i card) l' a' partner'
+  role_put i card l' a' partner' one some low high here others paired =
+      let same = at_put_same (blank_card none) card cards i low (omega (arith, role.long)) in
+      record {
+        one = one;
+        some = some;
+        long = length-put cards i card ∙ role.long;
+        shaped = λ j. ⊎_elim
+            (λ e. rw (← e) (ap (λ x. code x.status) same ∙ here))
+            (λ apart. ap (λ x. code x.status) (at_put_other (blank_card none) card cards i j apart) ∙ role.shaped j ∙ others j apart)
+            (cases_eq i j);
+        paired = λ h. let e = paired h in rw (← e.0) (ap (λ x. number x.partner) same ∙ e.1);
+      }
 
--- The shapes that a step leads to differ only at the card that it writes.
-pub shape_lost : (l i : ℕ) → (l + 1) ≢ i → shape l 1 i ≡ shape (l + 1) 0 i
-shape_lost l zero apart = refl
-shape_lost l (suc j) apart = grind (arith, nat_tests)
+  pub role_loses : (i partner' : ℕ) → a ≡ 1 → i ≡ l + 1 → Role number none places (put cards i (has_status Lost (at (blank_card none) cards i))) (l + 1) 0 partner'
+  role_loses i partner' active last =
+      role_put i _ (l + 1) 0 partner' (omega arith) (omega arith) (omega arith) (omega (arith, role_fits)) (grind (arith, nat_tests)) (λ j apart. grind (arith, nat_tests)) (λ h. absurd (omega arith))
 
-pub shape_new : (l i : ℕ) → (l + 1) ≢ i → shape l 0 i ≡ shape l 1 i
-shape_new l zero apart = refl
-shape_new l (suc j) apart = grind (arith, nat_tests)
+  pub role_gains : (i partner' : ℕ) (card : Card P) → card.status ≡ Active → a ≡ 0 → i ≡ l + 1 → i ≤ places → number card.partner ≡ partner' → Role number none places (put cards i card) l 1 partner'
+  role_gains i partner' card active none last room names =
+      role_put i card l 1 partner' (omega arith) (omega arith) (omega arith) room (ap code active ∙ grind (arith, nat_tests)) (λ j apart. grind (arith, nat_tests)) (λ h. (last, names))
 
-pub first_role : {P : Type 0} (one none : P) (s : ℕ) → Role none (first_card one none s) 0 1
-first_role one none s zero = refl
-first_role one none s (suc zero) = refl
-first_role one none s (suc (suc j)) = let later : 0 ≡ shape 0 1 (suc (suc j)) = grind (arith, nat_tests) in unused (s - 1) j ∙ later
-  where
-    unused : (n j : ℕ) → code (get_or (replicate n (blank_card none)) j (blank_card none)).status ≡ 0
-    unused zero j = refl
-    unused (suc n) zero = refl
-    unused (suc n) (suc j) = unused n j
+  pub role_repartnered : (i partner' : ℕ) (p : P) → a ≡ 1 → i ≡ l + 1 → number p ≡ partner' → Role number none places (put cards i (has_partner p (at (blank_card none) cards i))) l a partner'
+  role_repartnered i partner' p active last names =
+      role_put i _ l a partner' role.one role.some (omega arith) (omega (arith, role_fits)) (role.shaped i) (λ j apart. refl) (λ h. (last, names))
+
+  -- A card that takes a move keeps its status and its partner.
+  pub role_taken : (i : ℕ) → Role number none places (put cards i (has_taken (at (blank_card none) cards i))) l a partner
+  role_taken i =
+      let card = has_taken (at (blank_card none) cards i) in
+      record {
+        one = role.one;
+        some = role.some;
+        long = length-put cards i card ∙ role.long;
+        shaped = λ j. ap code (at_put_like (λ (x : Card P). x.status) (blank_card none) card cards i j refl) ∙ role.shaped j;
+        paired = λ h. ap number (at_put_like (λ (x : Card P). x.partner) (blank_card none) card cards i (l + 1) refl) ∙ role.paired h;
+      }
+
+  -- The partner is the same one under another name.
+  pub role_facing : (partner' : ℕ) → (a ≡ 1 → partner ≡ partner') → Role number none places cards l a partner'
+  role_facing partner' same = record { one = role.one; some = role.some; long = role.long; shaped = role.shaped; paired = λ h. role.paired h ∙ same h }
+
+pub first_role : {P : Type 0} (number : P → ℕ) (one none : P) (places : ℕ) → 1 ≤ places → Role number none places (first_card one none places) 0 1 (number one)
+first_role number one none places some = record {
+  one = omega arith;
+  some = omega arith;
+  long = first_cards_long one none places some;
+  shaped = each_first (λ i x. code x.status ≡ shape 0 1 i) one none places refl (λ i apart. grind (arith, nat_tests));
+  paired = λ _. refl;
+}

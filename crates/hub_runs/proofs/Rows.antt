@@ -80,145 +80,73 @@ pub record Known (a : Cards) (om ob mc bc : ℕ) : Type 0 where
 
 -- The ways in which the cards change: a backup or a master is made, a master or a backup is lost.
 abbrev pub made_backup : Cards → Cards
-made_backup a = record { lm = a.lm; ma = a.ma; lb = a.lb; ba = 1; k = a.k }
+made_backup a = record a { ba = 1 }
 
 abbrev pub made_master : Cards → Cards
-made_master a = record { lm = a.lm; ma = 1; lb = a.lb; ba = a.ba; k = a.k }
+made_master a = record a { ma = 1 }
 
 abbrev pub lost_master : Cards → Cards
-lost_master a = record { lm = a.lm + 1; ma = 0; lb = a.lb; ba = a.ba; k = a.k }
+lost_master a = record a { lm = a.lm + 1; ma = 0 }
 
 abbrev pub lost_backup : Cards → Cards
-lost_backup a = record { lm = a.lm; ma = a.ma; lb = a.lb + 1; ba = 0; k = a.k }
+lost_backup a = record a { lb = a.lb + 1; ba = 0 }
+
+-- What these ways have in common: no card comes back, and no last card is taken away. No more are lost than may be.
+pub record Changed (a a' : Cards) : Type 0 where
+  pub sane : Sane a'
+  pub limit : a'.k ≡ a.k
+  pub masters_lost : a.lm ≤ a'.lm
+  pub backups_lost : a.lb ≤ a'.lb
+  pub last_master : a.lm + a.ma ≤ a'.lm + a'.ma
+  pub last_backup : a.lb + a.ba ≤ a'.lb + a'.ba
+  pub room : a'.lb + (a.lm + a.ma) ≤ a.k + 1
+
+-- How often the lists of the last master and the last backup hold a command before and after such a change: a new card
+-- has the other role's list, and each other card its own.
+pub record Copied (a a' : Cards) (mc bc mc' bc' : ℕ) : Type 0 where
+  pub fewer : mc' ≤ mc
+  pub contained : bc' ≤ mc'
+  pub kept : bc ≤ bc'
+  pub old_master : mc + (a.lm + a.ma) ≤ mc' + (a'.lm + a'.ma)
+  pub new_master : mc' + (a'.lm + a'.ma) ≤ bc + (a.lm + a.ma) + 1
+  pub old_backup : bc' + (a.lb + a.ba) ≤ bc + (a'.lb + a'.ba)
+  pub new_backup : mc + (a'.lb + a'.ba) ≤ bc' + (a.lb + a.ba) + 1
 
 -- A command that the step is not about: where it is, it stays within its row, and its weight does not rise.
-abbrev pub Stays : Cards → Cards → Phase → Option Message → (om ob mc bc mc' bc' : ℕ) → Type 0
-Stays a a' phase msg om ob mc bc mc' bc' = Row a phase msg om ob mc bc → Row a' phase msg om ob mc' bc' × (weight a' phase msg om ≤ weight a phase msg om)
+module _ (a a' : Cards) (sane : Sane a) (changed : Changed a a') (om ob mc bc mc' bc' : ℕ) (known : Known a om ob mc bc) (copied : Copied a a' mc bc mc' bc') where
+  between_stays : (m b : ℕ) → Between a om m b mc bc → Between a' om m b mc' bc'
+  between_stays m b r = search arith
 
-module _ (a : Cards) (sane : Sane a) (om ob mc bc : ℕ) (known : Known a om ob mc bc) where
-  -- A new backup has the master's list.
-  between_backup_made : (m b : ℕ) → a.ba ≡ 0 → Between a om m b mc bc → Between (made_backup a) om m b mc mc
-  between_backup_made m b change r = record {
-    own = r.own;
-    some = r.some;
-    known = omega arith;
-    by_master = omega arith;
-    by_new_backup = omega arith;
-    not_by_backup = omega arith;
-    not_by_new_master = omega arith;
-  }
+  pub stays : (phase : Phase) (msg : Option Message) → Row a phase msg om ob mc bc → Row a' phase msg om ob mc' bc' × (weight a' phase msg om ≤ weight a phase msg om)
+  stays Working (Some (MasterDone m b)) r = (between_stays m.0 b.0 r, omega arith)
+  stays Working (Some (BackupDo m b)) r = ((between_stays m.0 b.0 r.0, r.1), omega arith)
+  stays Working (Some (MasterGetNewBackup m b)) r = ((between_stays m.0 b.0 r.0, r.1, omega arith), omega arith)
+  stays _ _ r = search arith
 
-  pub backup_made_stays : (phase : Phase) (msg : Option Message) → a.ba ≡ 0 → Stays a (made_backup a) phase msg om ob mc bc mc mc
-  backup_made_stays Pending None change r = (omega arith, omega arith)
-  backup_made_stays Pending (Some msg) change r = absurd r
-  backup_made_stays Working None change r = absurd r
-  backup_made_stays Working (Some (MasterDo m)) change r = ((omega arith, omega arith), omega arith)
-  backup_made_stays Working (Some (MasterDone m b)) change r = (between_backup_made m.0 b.0 change r, omega arith)
-  backup_made_stays Working (Some (BackupDo m b)) change r = ((between_backup_made m.0 b.0 change r.0, r.1), omega arith)
-  backup_made_stays Working (Some (BackupDone m b)) change r = ((omega arith, omega arith), omega arith)
-  backup_made_stays Working (Some (MasterGetNewBackup m b)) change r = ((between_backup_made m.0 b.0 change r.0, r.1, omega arith), omega arith)
-  backup_made_stays Working (Some (BackupGetNewMaster m b)) change r = ((omega arith, omega arith, omega arith, omega arith, omega arith, omega arith), omega arith)
-  backup_made_stays Working (Some (NewBackupId m b)) change r = ((omega arith, omega arith, omega arith), omega arith)
-  backup_made_stays Working (Some (NewMasterId m b)) change r = ((omega arith, omega arith, omega arith), omega arith)
-  backup_made_stays Done None change r = ((omega arith, omega arith), omega arith)
-  backup_made_stays Done (Some msg) change r = absurd r
-  backup_made_stays GaveUp None change r = ((omega arith, omega arith), omega arith)
-  backup_made_stays GaveUp (Some msg) change r = absurd r
+  pub known_stays : Known a' om ob mc' bc'
+  known_stays = search arith
 
-  pub backup_made_known : a.ba ≡ 0 → Known (made_backup a) om ob mc mc
-  backup_made_known change = record { some_own = known.some_own; own_master = omega arith; own_backup = omega arith; once = omega arith; contained = omega arith }
+-- Each of the four is such a change.
+module _ (a : Cards) (sane : Sane a) where
+  pub backup_is_made : a.ba ≡ 0 → Changed a (made_backup a)
+  backup_is_made none = search arith
 
-  -- A new master has the backup's list.
-  between_master_made : (m b : ℕ) → a.ma ≡ 0 → Between a om m b mc bc → Between (made_master a) om m b bc bc
-  between_master_made m b change r = record {
-    own = r.own;
-    some = r.some;
-    known = omega arith;
-    by_master = omega arith;
-    by_new_backup = omega arith;
-    not_by_backup = omega arith;
-    not_by_new_master = omega arith;
-  }
+  pub master_is_made : a.ma ≡ 0 → Changed a (made_master a)
+  master_is_made none = search arith
 
-  pub master_made_stays : (phase : Phase) (msg : Option Message) → a.ma ≡ 0 → Stays a (made_master a) phase msg om ob mc bc bc bc
-  master_made_stays Pending None change r = (omega arith, omega arith)
-  master_made_stays Pending (Some msg) change r = absurd r
-  master_made_stays Working None change r = absurd r
-  master_made_stays Working (Some (MasterDo m)) change r = ((omega arith, omega arith), omega arith)
-  master_made_stays Working (Some (MasterDone m b)) change r = (between_master_made m.0 b.0 change r, omega arith)
-  master_made_stays Working (Some (BackupDo m b)) change r = ((between_master_made m.0 b.0 change r.0, r.1), omega arith)
-  master_made_stays Working (Some (BackupDone m b)) change r = ((omega arith, omega arith), omega arith)
-  master_made_stays Working (Some (MasterGetNewBackup m b)) change r = ((between_master_made m.0 b.0 change r.0, r.1, omega arith), omega arith)
-  master_made_stays Working (Some (BackupGetNewMaster m b)) change r = ((omega arith, omega arith, omega arith, omega arith, omega arith, omega arith), omega arith)
-  master_made_stays Working (Some (NewBackupId m b)) change r = ((omega arith, omega arith, omega arith), omega arith)
-  master_made_stays Working (Some (NewMasterId m b)) change r = ((omega arith, omega arith, omega arith), omega arith)
-  master_made_stays Done None change r = ((omega arith, omega arith), omega arith)
-  master_made_stays Done (Some msg) change r = absurd r
-  master_made_stays GaveUp None change r = ((omega arith, omega arith), omega arith)
-  master_made_stays GaveUp (Some msg) change r = absurd r
+  pub master_is_lost : a.ma ≡ 1 → a.lm + a.lb + 1 ≤ a.k → Changed a (lost_master a)
+  master_is_lost active rated = search arith
 
-  pub master_made_known : a.ma ≡ 0 → Known (made_master a) om ob bc bc
-  master_made_known change = record { some_own = known.some_own; own_master = omega arith; own_backup = omega arith; once = omega arith; contained = omega arith }
+  pub backup_is_lost : a.ba ≡ 1 → a.lm + a.lb + 1 ≤ a.k → Changed a (lost_backup a)
+  backup_is_lost active rated = search arith
 
-  -- A lost card keeps its list.
-  between_master_lost : (m b : ℕ) → a.ma ≡ 1 → Between a om m b mc bc → Between (lost_master a) om m b mc bc
-  between_master_lost m b change r = record {
-    own = r.own;
-    some = r.some;
-    known = omega arith;
-    by_master = omega arith;
-    by_new_backup = omega arith;
-    not_by_backup = omega arith;
-    not_by_new_master = omega arith;
-  }
+-- And so the lists are copied.
+module _ (a : Cards) (om ob mc bc : ℕ) (known : Known a om ob mc bc) where
+  pub copied_by_master : a.ba ≡ 0 → Copied a (made_backup a) mc bc mc mc
+  copied_by_master none = search arith
 
-  pub master_lost_stays : (phase : Phase) (msg : Option Message) → a.ma ≡ 1 → Stays a (lost_master a) phase msg om ob mc bc mc bc
-  master_lost_stays Pending None change r = (omega arith, omega arith)
-  master_lost_stays Pending (Some msg) change r = absurd r
-  master_lost_stays Working None change r = absurd r
-  master_lost_stays Working (Some (MasterDo m)) change r = ((omega arith, omega arith), omega arith)
-  master_lost_stays Working (Some (MasterDone m b)) change r = (between_master_lost m.0 b.0 change r, omega arith)
-  master_lost_stays Working (Some (BackupDo m b)) change r = ((between_master_lost m.0 b.0 change r.0, r.1), omega arith)
-  master_lost_stays Working (Some (BackupDone m b)) change r = ((omega arith, omega arith), omega arith)
-  master_lost_stays Working (Some (MasterGetNewBackup m b)) change r = ((between_master_lost m.0 b.0 change r.0, r.1, omega arith), omega arith)
-  master_lost_stays Working (Some (BackupGetNewMaster m b)) change r = ((omega arith, omega arith, omega arith, omega arith, omega arith, omega arith), omega arith)
-  master_lost_stays Working (Some (NewBackupId m b)) change r = ((omega arith, omega arith, omega arith), omega arith)
-  master_lost_stays Working (Some (NewMasterId m b)) change r = ((omega arith, omega arith, omega arith), omega arith)
-  master_lost_stays Done None change r = ((omega arith, omega arith), omega arith)
-  master_lost_stays Done (Some msg) change r = absurd r
-  master_lost_stays GaveUp None change r = ((omega arith, omega arith), omega arith)
-  master_lost_stays GaveUp (Some msg) change r = absurd r
+  pub copied_by_backup : a.ma ≡ 0 → Copied a (made_master a) mc bc bc bc
+  copied_by_backup none = search arith
 
-  pub master_lost_known : a.ma ≡ 1 → Known (lost_master a) om ob mc bc
-  master_lost_known change = record { some_own = known.some_own; own_master = omega arith; own_backup = omega arith; once = omega arith; contained = omega arith }
-
-  between_backup_lost : (m b : ℕ) → (a.ba ≡ 1) × (a.lm + a.lb + 1 ≤ a.k) → Between a om m b mc bc → Between (lost_backup a) om m b mc bc
-  between_backup_lost m b change r = record {
-    own = r.own;
-    some = r.some;
-    known = omega arith;
-    by_master = omega arith;
-    by_new_backup = omega arith;
-    not_by_backup = omega arith;
-    not_by_new_master = omega arith;
-  }
-
-  pub backup_lost_stays : (phase : Phase) (msg : Option Message) → (a.ba ≡ 1) × (a.lm + a.lb + 1 ≤ a.k) → Stays a (lost_backup a) phase msg om ob mc bc mc bc
-  backup_lost_stays Pending None change r = (omega arith, omega arith)
-  backup_lost_stays Pending (Some msg) change r = absurd r
-  backup_lost_stays Working None change r = absurd r
-  backup_lost_stays Working (Some (MasterDo m)) change r = ((omega arith, omega arith), omega arith)
-  backup_lost_stays Working (Some (MasterDone m b)) change r = (between_backup_lost m.0 b.0 change r, omega arith)
-  backup_lost_stays Working (Some (BackupDo m b)) change r = ((between_backup_lost m.0 b.0 change r.0, r.1), omega arith)
-  backup_lost_stays Working (Some (BackupDone m b)) change r = ((omega arith, omega arith), omega arith)
-  backup_lost_stays Working (Some (MasterGetNewBackup m b)) change r = ((between_backup_lost m.0 b.0 change r.0, r.1, omega arith), omega arith)
-  backup_lost_stays Working (Some (BackupGetNewMaster m b)) change r = ((omega arith, omega arith, omega arith, omega arith, omega arith, omega arith), omega arith)
-  backup_lost_stays Working (Some (NewBackupId m b)) change r = ((omega arith, omega arith, omega arith), omega arith)
-  backup_lost_stays Working (Some (NewMasterId m b)) change r = ((omega arith, omega arith, omega arith), omega arith)
-  backup_lost_stays Done None change r = ((omega arith, omega arith), omega arith)
-  backup_lost_stays Done (Some msg) change r = absurd r
-  backup_lost_stays GaveUp None change r = ((omega arith, omega arith), omega arith)
-  backup_lost_stays GaveUp (Some msg) change r = absurd r
-
-  pub backup_lost_known : (a.ba ≡ 1) × (a.lm + a.lb + 1 ≤ a.k) → Known (lost_backup a) om ob mc bc
-  backup_lost_known change = record { some_own = known.some_own; own_master = omega arith; own_backup = omega arith; once = omega arith; contained = omega arith }
+  pub not_copied : (a' : Cards) → a'.lm + a'.ma ≡ a.lm + a.ma → a'.lb + a'.ba ≡ a.lb + a.ba → Copied a a' mc bc mc bc
+  not_copied a' master backup = search arith

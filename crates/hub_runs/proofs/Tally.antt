@@ -1,30 +1,25 @@
 -- Every run keeps versions, figures and lists in step: a card's list is as long as its version, and gives its figures.
-use Rattle.std.proofs.Common.{◌≡◌, ℕ, zero, suc, ◌+◌, ◌-◌, ◌≤◌, List, [], ◌∷◌, ◌++◌, map, length, get_or, replicate, ℤ, pos, Some, sym, refl, ap, ◌∙◌, inl, inr, arith}
+use Rattle.std.proofs.Common.{◌≡◌, ℕ, ◌+◌, ◌≤◌, List, [], ◌∷◌, ◌++◌, length, replicate, ℤ, Some, sym, refl, ap, ◌∙◌, inl, inr, arith}
 use Rattle.std.proofs.lemmas.List.{length_push, length-replicate, length-map}
 use Rattle.std.proofs.lemmas.List.Sums.{fold_push}
 use Rattle.std.proofs.lemmas.Bool.{cases_eq}
 use Rattle.registers.specs.Kind.{Rule}
 use Rattle.actions.specs.declared.Action.{Action}
 use Rattle.actions.specs.declared.Action.TheVariants.{Starting, MasterDoing, HandlingMasterDone, BackupDoing, DetectingOldMasterId, HandlingBackupDone, HandlingMasterDoFailed, HandlingBackupDoFailed, GettingNewBackup, GettingNewMaster, HandlingBackupGetNewMasterFailed, HandlingMasterGetNewBackupFailed, UpdatingBackupId, UpdatingMasterId, CreatingNewBackup, CreatingNewMaster, KillingMaster, KillingBackup}
-use Rattle.hub_records.specs.Commands.{backup_in, master_in, the_backup, the_master}
+use Rattle.hub_records.specs.Commands.{the_backup, the_master}
 use Rattle.hub_tables.specs.Search.{active_card}
 use Rattle.hub_cards.specs.Tables.{at, put, blank_card}
 use Rattle.hub_cards.specs.declared.Card.{Card}
 use Rattle.hub_records.specs.declared.commands.Command.{Command}
 use Rattle.hub_records.specs.declared.hub.ExecState.{ExecState}
 use Rattle.hub_tables.proofs.Searches.{active_card_is}
-use Rattle.hub_runs.specs.Hubs.{Size, State, blank_client, client, master_card, backup_card, has_taken, with_client, with_exec}
-use Rattle.hub_runs.specs.Judging.{carried_out, judged}
-use Rattle.hub_runs.specs.Runs.{Limits, Call, Lists, Run, appended, lists_after, fresh, first_card, made, begun, run_of}
-use Rattle.hub_runs.specs.Promises.{move_of, figures_of, master_list, backup_list}
-use Rattle.hub_runs.proofs.Keeping.{Keeps, guard_keeps, with_card_keeps, by_card_keeps, run_keeps}
-use Rattle.hub_runs.proofs.Places.{length-put, at_put_same, at_put_other, at_put_like, at_replicate}
-
--- every card of a made hub has version 0
-first_version : {P : Type 0} (one none : P) (size i : ℕ) → 1 ≤ i → i ≤ size → (at (blank_card none) (first_card one none size) i).version ≡ 0
-first_version one none size zero low high = refl
-first_version one none size (suc zero) low high = refl
-first_version one none size (suc (suc i)) low high = ap (λ x. x.version) (at_replicate (blank_card none) (blank_card none) (size - 1) (suc i) (omega arith) (omega arith))
+use Rattle.hub_runs.specs.Hubs.{Size, State, blank_client, client, has_taken, with_client, with_exec}
+use Rattle.hub_runs.specs.Runs.{Limits, Call, Lists, appended, lists_after, fresh, first_card, run_of}
+use Rattle.hub_runs.specs.Promises.{move_of, figures_of}
+use Rattle.hub_runs.specs.Module.{Next}
+use Rattle.hub_runs.proofs.Keeping.{run_keeps}
+use Rattle.hub_runs.proofs.Made.{first_cards_long, each_first, each_fresh}
+use Rattle.hub_runs.proofs.Places.{length-put, at_put_same, at_put_other, at_put_like, at_replicate, all_blank}
 
 module _ (start : List ℤ) (rule : Rule) (moves : List ℤ) where
   -- A list of commands agrees with a version and with figures.
@@ -39,11 +34,11 @@ module _ (start : List ℤ) (rule : Rule) (moves : List ℤ) where
   )
 
   -- The tables of one role, each of this size, and the lists of its cards, which agree. Place 0 holds no card.
-  record InStep {P : Type 0} (none : P) (size : ℕ) (cards : List (Card P)) (figures : List (List ℤ)) (lists : List (List ℕ)) : Type 0 where
-    cards_long : length cards ≡ size
-    figures_long : length figures ≡ size
-    lists_long : length lists ≡ size
-    each : (i : ℕ) → 1 ≤ i → i ≤ size → Agrees (at (blank_card none) cards i).version (at [] figures i) (at [] lists i)
+  pub record InStep {P : Type 0} (none : P) (size : ℕ) (cards : List (Card P)) (figures : List (List ℤ)) (lists : List (List ℕ)) : Type 0 where
+    pub cards_long : length cards ≡ size
+    pub figures_long : length figures ≡ size
+    pub lists_long : length lists ≡ size
+    pub each : (i : ℕ) → 1 ≤ i → i ≤ size → Agrees (at (blank_card none) cards i).version (at [] figures i) (at [] lists i)
 
   module _ {P : Type 0} {none : P} {size : ℕ} {cards : List (Card P)} {figures : List (List ℤ)} {lists : List (List ℕ)} (old : InStep none size cards figures lists) where
     -- a card's record, figures and list are written at once, and agree if the table has such a place
@@ -83,18 +78,18 @@ module _ (start : List ℤ) (rule : Rule) (moves : List ℤ) where
   -- the tables of a made hub are in step
   first_in_step : {P : Type 0} (one none : P) (size : ℕ) → 1 ≤ size → InStep none size (first_card one none size) (replicate size start) (replicate size [])
   first_in_step one none size some = record {
-    cards_long = simp length-replicate (omega arith);
+    cards_long = first_cards_long one none size some;
     figures_long = length-replicate size start;
     lists_long = length-replicate {A = List ℕ} size [];
-    each = λ i low high. rw (at_replicate [] start size i low high, at_replicate {A = List ℕ} [] [] size i low high) (sym (first_version one none size i low high), refl);
+    each = λ i low high. rw (at_replicate [] start size i low high, all_blank {A = List ℕ} [] size i) (sym (each_first (λ _ x. x.version ≡ 0) one none size refl (λ _ _. refl) i), refl);
   }
 
   -- A state and its lists: the clients have their moves, and the tables of each role are in step.
-  record Kept (size : Size) (s : State) (l : Lists) : Type 0 where
-    clients_long : length s.clients ≡ size.client_num
-    moves_kept : (c : ℕ) → (client s c).hundredths ≡ move_of moves c
-    of_masters : InStep (the_backup 0) size.max_instance s.master s.master_figures l.of_master
-    of_backups : InStep (the_master 0) size.max_instance s.backup s.backup_figures l.of_backup
+  pub record Kept (size : Size) (s : State) (l : Lists) : Type 0 where
+    pub clients_long : length s.clients ≡ size.client_num
+    pub moves_kept : (c : ℕ) → (client s c).hundredths ≡ move_of moves c
+    pub of_masters : InStep (the_backup 0) size.max_instance s.master s.master_figures l.of_master
+    pub of_backups : InStep (the_master 0) size.max_instance s.backup s.backup_figures l.of_backup
 
   module _ {size : Size} {s : State} {l : Lists} (old : Kept size s l) where
     -- a client's phase, message or knowledge changes
@@ -121,84 +116,41 @@ module _ (start : List ℤ) (rule : Rule) (moves : List ℤ) where
       of_backups = backups;
     }
 
-  carried_keeps : (size : Size) (a : Action) (c : ℕ) (s : State) (l : Lists) → Kept size s l → Keeps (λ s'. Kept size s' (lists_after a c s l)) (carried_out size rule a c (master_in (client s c).message) (backup_in (client s c).message) s)
-  unfolding carried_out lists_after
-  carried_keeps size Starting c s l old = client_kept old c _ refl
-  carried_keeps size MasterDoing c s l old = guard_keeps _ _ _ _ (λ _.
-      client_kept (cards_kept old _ _ refl (taken old.of_masters (master_in (client s c).message) c _ (old.moves_kept c)) old.of_backups) c _ refl)
-  carried_keeps size HandlingMasterDone c s l old = client_kept old c _ refl
-  carried_keeps size BackupDoing c s l old = guard_keeps _ _ _ _ (λ _. guard_keeps _ _ _ _ (λ _.
-      client_kept (cards_kept old _ _ refl old.of_masters (taken old.of_backups (backup_in (client s c).message) c _ (old.moves_kept c))) c _ refl))
-  carried_keeps size DetectingOldMasterId c s l old = guard_keeps _ _ _ _ (λ _. guard_keeps _ _ _ _ (λ _. client_kept old c _ refl))
-  carried_keeps size HandlingBackupDone c s l old = exec_kept (client_kept old c _ refl) _
-  carried_keeps size HandlingMasterDoFailed c s l old =
-      guard_keeps _ _ _ _ (λ _. by_card_keeps _ _ _ _ (λ _. exec_kept (client_kept old c _ refl) _) (λ _ _. client_kept old c _ refl))
-  carried_keeps size HandlingBackupDoFailed c s l old = guard_keeps _ _ _ _ (λ _. client_kept old c _ refl)
-  carried_keeps size GettingNewBackup c s l old = guard_keeps _ _ _ _ (λ _. guard_keeps _ _ _ _ (λ _. client_kept old c _ refl))
-  carried_keeps size GettingNewMaster c s l old = guard_keeps _ _ _ _ (λ _. guard_keeps _ _ _ _ (λ _. client_kept old c _ refl))
-  carried_keeps size HandlingBackupGetNewMasterFailed c s l old =
-      guard_keeps _ _ _ _ (λ _. by_card_keeps _ _ _ _ (λ _. exec_kept (client_kept old c _ refl) _) (λ _ _. guard_keeps _ _ _ _ (λ _. client_kept old c _ refl)))
-  carried_keeps size HandlingMasterGetNewBackupFailed c s l old = guard_keeps _ _ _ _ (λ _. exec_kept (client_kept old c _ refl) _)
-  carried_keeps size UpdatingBackupId c s l old = exec_kept (client_kept old c _ refl) _
-  carried_keeps size UpdatingMasterId c s l old = client_kept old c _ refl
-  carried_keeps size CreatingNewBackup c s l old = with_card_keeps _ _ _ _ (λ a found. by_card_keeps _ _ _ _
-      (λ _. with_card_keeps _ _ _ _ (λ n lost. guard_keeps _ _ _ _ (λ _. rw (lost, found)
-      (cards_kept old _ _ refl (version_kept old.of_masters a _ refl) (all_written old.of_backups (n + 1) _ _ _ (λ _ _. found_agrees old.of_masters a found))))))
-      (λ _ _. tt))
-  carried_keeps size CreatingNewMaster c s l old = with_card_keeps _ _ _ _ (λ a found. by_card_keeps _ _ _ _
-      (λ _. with_card_keeps _ _ _ _ (λ n lost. guard_keeps _ _ _ _ (λ _. rw (lost, found)
-      (cards_kept old _ _ refl (all_written old.of_masters (n + 1) _ _ _ (λ _ _. found_agrees old.of_backups a found)) (version_kept old.of_backups a _ refl)))))
-      (λ _ _. tt))
-  carried_keeps size KillingMaster c s l old = with_card_keeps _ _ _ _ (λ a _. cards_kept old _ _ refl (version_kept old.of_masters a _ refl) old.of_backups)
-  carried_keeps size KillingBackup c s l old = with_card_keeps _ _ _ _ (λ a _. cards_kept old _ _ refl old.of_masters (version_kept old.of_backups a _ refl))
-
-  judged_keeps : (size : Size) (a : Action) (c : ℕ) (s : State) (l : Lists) → Kept size s l → Keeps (λ s'. Kept size s' (lists_after a c s l)) (judged size rule a c s)
-  unfolding judged
-  judged_keeps size a c s l old = guard_keeps _ _ _ _ (λ _. guard_keeps _ _ _ _ (λ _. guard_keeps _ _ _ _ (λ _. carried_keeps size a c s l old)))
-
--- the clients of a made hub have the moves with which it was made
-made_moves : (moves : List ℤ) (i : ℕ) → (get_or (map fresh moves) i blank_client).hundredths ≡ get_or moves i (pos 0)
-made_moves [] i = refl
-made_moves (t ∷ moves) zero = refl
-made_moves (t ∷ moves) (suc i) = made_moves moves i
-
-made_move : (moves : List ℤ) (c : ℕ) → (at blank_client (map fresh moves) c).hundredths ≡ move_of moves c
-made_move moves zero = refl
-made_move moves (suc i) = made_moves moves i
-
-made_kept : (size : Size) (start : List ℤ) (rule : Rule) (moves : List ℤ) → Limits size moves → Kept start rule moves size (made size start moves) (begun size start moves).lists
-made_kept size start rule moves limits = record {
-  clients_long = length-map moves fresh ∙ limits.one_move_each;
-  moves_kept = made_move moves;
-  of_masters = first_in_step start rule moves (the_backup 1) (the_backup 0) size.max_instance limits.some_instances;
-  of_backups = first_in_step start rule moves (the_master 1) (the_master 0) size.max_instance limits.some_instances;
-}
+  acted_kept : (size : Size) (a : Action) (c : ℕ) (s s' : State) (l : Lists) → Next size rule a c s s' → Kept size s l → Kept size s' (lists_after a c s l)
+  unfolding lists_after
+  acted_kept size Starting c s s' l (n, (runs, p, e)) old = rw e (client_kept old c _ refl)
+  acted_kept size MasterDoing c s s' l (n, (m, runs, h, a, e)) old =
+      rw (e, h) (client_kept (cards_kept old _ _ refl (taken old.of_masters m.0 c _ (old.moves_kept c)) old.of_backups) c _ refl)
+  acted_kept size HandlingMasterDone c s s' l (n, (m, b, runs, h, e)) old = rw e (client_kept old c _ refl)
+  acted_kept size BackupDoing c s s' l (n, (m, b, runs, h, a, q, e)) old =
+      rw (e, h) (client_kept (cards_kept old _ _ refl old.of_masters (taken old.of_backups b.0 c _ (old.moves_kept c))) c _ refl)
+  acted_kept size DetectingOldMasterId c s s' l (n, (m, b, runs, h, a, q, e)) old = rw e (client_kept old c _ refl)
+  acted_kept size HandlingBackupDone c s s' l (n, (m, b, runs, h, e)) old = rw e (exec_kept (client_kept old c _ refl) _)
+  acted_kept size HandlingMasterDoFailed c s s' l (n, (m, runs, h, a, ways)) old =
+      elim ways [ inl none ↦ rw none.1 (exec_kept (client_kept old c _ refl) _) | inr found ↦ rw found.2 (client_kept old c _ refl) ]
+  acted_kept size HandlingBackupDoFailed c s s' l (n, (m, b, runs, h, a, e)) old = rw e (client_kept old c _ refl)
+  acted_kept size GettingNewBackup c s s' l (n, (m, b, runs, h, a, q, e)) old = rw e (client_kept old c _ refl)
+  acted_kept size GettingNewMaster c s s' l (n, (m, b, runs, h, a, q, e)) old = rw e (client_kept old c _ refl)
+  acted_kept size HandlingBackupGetNewMasterFailed c s s' l (n, (m, b, runs, h, a, ways)) old =
+      elim ways [ inl none ↦ rw none.1 (exec_kept (client_kept old c _ refl) _) | inr found ↦ rw found.3 (client_kept old c _ refl) ]
+  acted_kept size HandlingMasterGetNewBackupFailed c s s' l (n, (m, b, runs, h, a, e)) old = rw e (exec_kept (client_kept old c _ refl) _)
+  acted_kept size UpdatingBackupId c s s' l (n, (m, b, runs, h, e)) old = rw e (exec_kept (client_kept old c _ refl) _)
+  acted_kept size UpdatingMasterId c s s' l (n, (m, b, runs, h, e)) old = rw e (client_kept old c _ refl)
+  acted_kept size CreatingNewBackup c s s' l (n, (a, k, runs, found, none, lost, room, e)) old =
+      rw (e, lost, found) (cards_kept old _ _ refl (version_kept old.of_masters a _ refl) (all_written old.of_backups (k + 1) _ _ _ (λ _ _. found_agrees old.of_masters a found)))
+  acted_kept size CreatingNewMaster c s s' l (n, (a, k, runs, none, found, lost, room, e)) old =
+      rw (e, lost, found) (cards_kept old _ _ refl (all_written old.of_masters (k + 1) _ _ _ (λ _ _. found_agrees old.of_backups a found)) (version_kept old.of_backups a _ refl))
+  acted_kept size KillingMaster c s s' l (n, (a, runs, room, found, e)) old = rw e (cards_kept old _ _ refl (version_kept old.of_masters a _ refl) old.of_backups)
+  acted_kept size KillingBackup c s s' l (n, (a, runs, room, found, e)) old = rw e (cards_kept old _ _ refl old.of_masters (version_kept old.of_backups a _ refl))
 
 -- What every run keeps: each table's length, the clients' moves, and for each card of either role its list in step.
-pub record Tallied (size : Size) (start : List ℤ) (rule : Rule) (moves : List ℤ) (r : Run) : Type 0 where
-  pub clients_long : length r.state.clients ≡ size.client_num
-  pub master_long : length r.state.master ≡ size.max_instance
-  pub backup_long : length r.state.backup ≡ size.max_instance
-  pub master_figures_long : length r.state.master_figures ≡ size.max_instance
-  pub backup_figures_long : length r.state.backup_figures ≡ size.max_instance
-  pub master_lists_long : length r.lists.of_master ≡ size.max_instance
-  pub backup_lists_long : length r.lists.of_backup ≡ size.max_instance
-  pub moves_kept : (c : ℕ) → (client r.state c).hundredths ≡ move_of moves c
-  pub masters : (m : ℕ) → 1 ≤ m → m ≤ size.max_instance → (length (master_list r m) ≡ (master_card r.state m).version) × (at [] r.state.master_figures m ≡ figures_of start rule moves (master_list r m))
-  pub backups : (b : ℕ) → 1 ≤ b → b ≤ size.max_instance → (length (backup_list r b) ≡ (backup_card r.state b).version) × (at [] r.state.backup_figures b ≡ figures_of start rule moves (backup_list r b))
-
-pub tallied : (size : Size) (start : List ℤ) (rule : Rule) (moves : List ℤ) → Limits size moves → (calls : List Call) → Tallied size start rule moves (run_of size start rule moves calls)
+pub tallied : (size : Size) (start : List ℤ) (rule : Rule) (moves : List ℤ) → Limits size moves → (calls : List Call) → Kept start rule moves size (run_of size start rule moves calls).state (run_of size start rule moves calls).lists
 tallied size start rule moves limits calls =
-    let kept = run_keeps size rule (Kept start rule moves size) (λ a c s l _ old. judged_keeps start rule moves size a c s l old) start moves (made_kept size start rule moves limits) calls in
-    record {
-      clients_long = kept.clients_long;
-      master_long = kept.of_masters.cards_long;
-      backup_long = kept.of_backups.cards_long;
-      master_figures_long = kept.of_masters.figures_long;
-      backup_figures_long = kept.of_backups.figures_long;
-      master_lists_long = kept.of_masters.lists_long;
-      backup_lists_long = kept.of_backups.lists_long;
-      moves_kept = kept.moves_kept;
-      masters = kept.of_masters.each;
-      backups = kept.of_backups.each;
-    }
+    run_keeps size rule (λ r. Kept start rule moves size r.state r.lists) (λ a c s r next old. acted_kept start rule moves size a c r.state s r.lists next old) (λ _ _ _ old. old) start moves
+    (record {
+      clients_long = length-map moves fresh ∙ limits.one_move_each;
+      moves_kept = each_fresh (λ move x. x.hundredths ≡ move) moves refl (λ _. refl);
+      of_masters = first_in_step start rule moves (the_backup 1) (the_backup 0) size.max_instance limits.some_instances;
+      of_backups = first_in_step start rule moves (the_master 1) (the_master 0) size.max_instance limits.some_instances;
+    })
+    calls

@@ -6,6 +6,7 @@ use Rattle.hub_cards.specs.declared.MasterNumber.{MasterNumber}
 use Rattle.hub_records.specs.declared.commands.Command.{Command}
 use Rattle.hub_records.specs.declared.hub.Hub.{Hub}
 use Rattle.hub_runs.specs.Hubs.{Size, State}
+pub use Rattle.hub_tables.specs.Lent.{Lent, SameSlices, held, lent, viewed}
 
 abbrev pub size_of : Hub → Size
 size_of hub = record { client_num = hub.commands; max_kill = hub.kills; max_instance = hub.cards }
@@ -13,17 +14,6 @@ size_of hub = record { client_num = hub.commands; max_kill = hub.kills; max_inst
 -- The last two are the figures of the registers of each role.
 abbrev pub state_of : Hub → List Command → List (Card BackupNumber) → List (Card MasterNumber) → List (List ℤ) → List (List ℤ) → State
 state_of hub commands masters backups master_figures backup_figures = record { exec_state = hub.state; clients = commands; master = masters; backup = backups; killed = hub.losses; steps = hub.steps; master_figures = master_figures; backup_figures = backup_figures }
-
--- The tables that the caller lends; `R` is the type of the registers.
-pub record Lent (R : Type 0) : Type 0 where
-  pub of_commands : List Command
-  pub of_masters : List (Card BackupNumber)
-  pub of_master_registers : List R
-  pub of_backups : List (Card MasterNumber)
-  pub of_backup_registers : List R
-
-abbrev pub lent : {R : Type 0} → List Command → List (Card BackupNumber) → List R → List (Card MasterNumber) → List R → Lent R
-lent cs ms mrs bs brs = record { of_commands = cs; of_masters = ms; of_master_registers = mrs; of_backups = bs; of_backup_registers = brs }
 
 -- What counts of a register are its figures, which `figures` gives.
 abbrev pub state_in : {R : Type 0} → (R → List ℤ) → Hub → Lent R → State

@@ -6,22 +6,16 @@ ghost use Rattle.hub_runs.specs.WorkedRuns.{WorkedRuns};
 use registers::Register;
 
 /// Judging a step is taking the module's action under the step's letter, with registers of any kind.
-pub fn steps_are_the_modules<R: Register>() -> u8
+pub fn steps_are_the_modules<R: Register>()
     ensures { StepsAreTheModules R.rule }
-{
-    0
-}
+{}
 
 /// The worked runs go as they stand in the specification.
-pub fn worked_runs_hold() -> u8
+pub fn worked_runs_hold()
     ensures { WorkedRuns }
-{
-    0
-}
+{}
 
 /// Three shortcuts that the actions do not take would miscount.
-pub fn shortcuts_miscount() -> u8
+pub fn shortcuts_miscount()
     ensures { ShortcutsMiscount }
-{
-    0
-}
+{}

@@ -5,47 +5,33 @@ ghost use Rattle.hub_runs.specs.Promises.{AtMostOneCardOfARoleIsActive, DoneComm
 
 use registers::Register;
 
-pub fn no_command_is_taken_twice<R: Register>() -> u8
+pub fn no_command_is_taken_twice<R: Register>()
     ensures { NoCommandIsTakenTwice R.start R.rule }
-{
-    0
-}
+{}
 
-pub fn done_commands_are_in_both_last_lists<R: Register>() -> u8
+pub fn done_commands_are_in_both_last_lists<R: Register>()
     ensures { DoneCommandsAreInBothLastLists R.start R.rule }
-{
-    0
-}
+{}
 
-pub fn success_counts_every_command<R: Register>() -> u8
+pub fn success_counts_every_command<R: Register>()
     ensures { SuccessCountsEveryCommand R.start R.rule }
-{
-    0
-}
+{}
 
-pub fn at_most_one_card_of_a_role_is_active<R: Register>() -> u8
+pub fn at_most_one_card_of_a_role_is_active<R: Register>()
     ensures { AtMostOneCardOfARoleIsActive R.start R.rule }
-{
-    0
-}
+{}
 
-pub fn fatal_means_both_cards_of_a_command_are_gone<R: Register>() -> u8
+pub fn fatal_means_both_cards_of_a_command_are_gone<R: Register>()
     ensures { FatalMeansBothCardsOfACommandAreGone R.start R.rule }
-{
-    0
-}
+{}
 
-pub fn steps_are_counted_and_bounded<R: Register>() -> u8
+pub fn steps_are_counted_and_bounded<R: Register>()
     ensures { StepsAreCountedAndBounded R.start R.rule }
-{
-    0
-}
+{}
 
-pub fn some_step_is_open<R: Register>() -> u8
+pub fn some_step_is_open<R: Register>()
     ensures { SomeStepIsOpen R.start R.rule }
-{
-    0
-}
+{}
 
 /// Everything that is promised of runs holds of every run, with registers of any kind.
 pub fn every_run_keeps_its_promises<R: Register>()

@@ -1,5 +1,5 @@
 -- What the steps on the cards do to their tables is what the model has: the caller adds what it does to the hub's record.
-use Rattle.std.proofs.Common.{◌≡◌, ℕ, ◌+◌, true, false, cond, leb, List, ℤ, Some, None, Ok, Err, Option, Result, sym, refl, ap, ◌∙◌, subst, MatchResult}
+use Rattle.std.proofs.Common.{◌≡◌, ℕ, ◌+◌, Bool, true, false, cond, leb, List, ℤ, Some, None, Ok, Err, Option, Result, sym, refl, ap, ◌∙◌, subst, MatchResult}
 use Rattle.refusals.specs.declared.Refusal.{Refusal}
 use Rattle.registers.specs.Kind.{Rule}
 use Rattle.actions.specs.declared.Action.TheVariants.{CreatingNewBackup, CreatingNewMaster, KillingMaster, KillingBackup}
@@ -15,16 +15,26 @@ use Rattle.hub_records.specs.declared.hub.ExecState.{ExecState}
 use Rattle.hub_runs.specs.Hubs.{Size, State, has_status, new_backup, new_master}
 use Rattle.hub_runs.specs.Runs as runs
 use Rattle.hub_runs.specs.Judging.{Answer, by_card, carried_out, denied, guard, moved, with_card}
+use Rattle.hub_steps.specs.Counting.{once_counted}
 use Rattle.hub_steps.specs.Replied.{Replied}
 use Rattle.hub_steps.specs.CardSteps.{Accepted, Choice, Creates, Denied, Loses, Tables, choice, chosen, makes, refused, with_new}
 
 -- What the caller has done to the rest of the state: an accepted step is counted and comes to so many losses, and a denied
 -- one is not counted. Neither changes how the hub stands, or a command.
-abbrev pub Counted : {T : Type 0} → ℕ → State → Result T Refusal → State → Type 0
+abbrev Counted : {T : Type 0} → ℕ → State → Result T Refusal → State → Type 0
 Counted losses s r s' =
     (s'.exec_state ≡ s.exec_state)
     × (s'.clients ≡ s.clients)
     × MatchResult r (λ _. (s'.killed ≡ losses) × (s'.steps ≡ s.steps + 1)) (λ _. (s'.killed ≡ s.killed) × (s'.steps ≡ s.steps))
+
+-- The caller has written nothing but cards and registers yet.
+abbrev pub Uncounted : State → State → Type 0
+Uncounted s s' = (s'.exec_state ≡ s.exec_state) × (s'.clients ≡ s.clients) × (s'.killed ≡ s.killed) × (s'.steps ≡ s.steps)
+
+counted_so : {T : Type 0} (loss : Bool) (s s' : State) (r : Result T Refusal) → Uncounted s s' → Counted (cond loss (s.killed + 1) s.killed) s r (once_counted loss r s')
+counted_so loss s s' (Ok x) same =
+    (same.0, same.1, (ap (λ k. cond loss (k + 1) k) same.2, ap (λ n. n + 1) same.3))
+counted_so loss s s' (Err refusal) same = (same.0, same.1, (same.2, same.3))
 
 -- The model's steps that make a card go by the choice.
 by_choice : Choice → (ℕ → ℕ → Answer) → Answer
@@ -121,26 +131,27 @@ by_new_master =
       whole = λ s. refl;
     }
 
--- The four steps, for any states before and after the call, and whatever command the model is asked about.
+-- The four steps, for any states before and after the call, and whatever command the model is asked about. Once counted,
+-- what was written is what the model has.
 module _ {T : Type 0} (size : Size) (rule : Rule) (c m b : ℕ) (s s' : State) (r : Result T Refusal) where
-  pub kill_master_is : Loses (active_card s.master) s.master r s'.master → Counted (s.killed + 1) s r s' → by_master_loss.rest s' ≡ by_master_loss.rest s → Replied (carried_out size rule KillingMaster c m b s) s r s'
+  pub kill_master_is : Loses (active_card s.master) s.master r s'.master → Uncounted s s' → by_master_loss.rest s' ≡ by_master_loss.rest s → Replied (carried_out size rule KillingMaster c m b s) s r (once_counted true r s')
   unfolding carried_out
-  kill_master_is = lost_so by_master_loss (the_backup 0) s s' r (active_card s.master)
+  kill_master_is loses same = lost_so by_master_loss (the_backup 0) s (once_counted true r s') r (active_card s.master) loses (counted_so true s s' r same)
 
-  pub kill_backup_is : Loses (active_card s.backup) s.backup r s'.backup → Counted (s.killed + 1) s r s' → by_backup_loss.rest s' ≡ by_backup_loss.rest s → Replied (carried_out size rule KillingBackup c m b s) s r s'
+  pub kill_backup_is : Loses (active_card s.backup) s.backup r s'.backup → Uncounted s s' → by_backup_loss.rest s' ≡ by_backup_loss.rest s → Replied (carried_out size rule KillingBackup c m b s) s r (once_counted true r s')
   unfolding carried_out
-  kill_backup_is = lost_so by_backup_loss (the_master 0) s s' r (active_card s.backup)
+  kill_backup_is loses same = lost_so by_backup_loss (the_master 0) s (once_counted true r s') r (active_card s.backup) loses (counted_so true s s' r same)
 
-  pub create_backup_is : Creates (λ x. x.0) (λ y. y.0) s.master_figures (chosen size.max_instance s.master s.backup) (s.master, s.backup, s.backup_figures) r (s'.master, s'.backup, s'.backup_figures) → Counted s.killed s r s' → s'.master_figures ≡ s.master_figures → Replied (carried_out size rule CreatingNewBackup c m b s) s r s'
+  pub create_backup_is : Creates (λ x. x.0) (λ y. y.0) s.master_figures (chosen size.max_instance s.master s.backup) (s.master, s.backup, s.backup_figures) r (s'.master, s'.backup, s'.backup_figures) → Uncounted s s' → s'.master_figures ≡ s.master_figures → Replied (carried_out size rule CreatingNewBackup c m b s) s r (once_counted false r s')
   unfolding carried_out
-  create_backup_is creates counted kept =
-      subst (λ answer. Replied answer s r s')
+  create_backup_is creates same kept =
+      subst (λ answer. Replied answer s r (once_counted false r s'))
       (sym (model_chooses size.max_instance (active_card s.master) (active_card s.backup) (last_lost s.backup) (λ a new. moved (new_backup a new s))))
-      (created_so by_new_backup (λ x. x.0) (λ y. y.0) the_master the_backup (λ x. refl) (λ y. refl) (the_backup 0) s.master_figures s s' r (chosen size.max_instance s.master s.backup) creates counted kept)
+      (created_so by_new_backup (λ x. x.0) (λ y. y.0) the_master the_backup (λ x. refl) (λ y. refl) (the_backup 0) s.master_figures s (once_counted false r s') r (chosen size.max_instance s.master s.backup) creates (counted_so false s s' r same) kept)
 
-  pub create_master_is : Creates (λ x. x.0) (λ y. y.0) s.backup_figures (chosen size.max_instance s.backup s.master) (s.backup, s.master, s.master_figures) r (s'.backup, s'.master, s'.master_figures) → Counted s.killed s r s' → s'.backup_figures ≡ s.backup_figures → Replied (carried_out size rule CreatingNewMaster c m b s) s r s'
+  pub create_master_is : Creates (λ x. x.0) (λ y. y.0) s.backup_figures (chosen size.max_instance s.backup s.master) (s.backup, s.master, s.master_figures) r (s'.backup, s'.master, s'.master_figures) → Uncounted s s' → s'.backup_figures ≡ s.backup_figures → Replied (carried_out size rule CreatingNewMaster c m b s) s r (once_counted false r s')
   unfolding carried_out
-  create_master_is creates counted kept =
-      subst (λ answer. Replied answer s r s')
+  create_master_is creates same kept =
+      subst (λ answer. Replied answer s r (once_counted false r s'))
       (sym (model_chooses size.max_instance (active_card s.backup) (active_card s.master) (last_lost s.master) (λ a new. moved (new_master a new s))))
-      (created_so by_new_master (λ x. x.0) (λ y. y.0) the_backup the_master (λ x. refl) (λ y. refl) (the_master 0) s.backup_figures s s' r (chosen size.max_instance s.backup s.master) creates counted kept)
+      (created_so by_new_master (λ x. x.0) (λ y. y.0) the_backup the_master (λ x. refl) (λ y. refl) (the_master 0) s.backup_figures s (once_counted false r s') r (chosen size.max_instance s.backup s.master) creates (counted_so false s s' r same) kept)

@@ -13,7 +13,10 @@ use Rattle.hub_records.specs.declared.hub.Hub.{Hub}
 use Rattle.hub_tables.specs.Fit.{card_fits, command_fits, fits}
 use Rattle.hub_runs.specs.Fits.{state_fits}
 use Rattle.hub_runs.specs.Hubs.{Size, State, blank_client}
-use Rattle.hub_runs.specs.States.{size_of, state_of}
+use Rattle.hub_runs.specs.States.{held, size_of, state_in, state_of, viewed}
+use Rattle.hub_tables.specs.declared.tables.Tables.{Tables}
+use Rattle.hub_tables.specs.declared.tables.View.{View}
+use Rattle.hub_steps.specs.Held.{state_held}
 use Rattle.hub_steps.specs.Stepping.{Fitting}
 
 each_passes : {A : Type 0} (test : A → Bool) (xs : List A) (blank : A) (i : ℕ) → list_all test xs ≡ true → test blank ≡ true → test (get_or xs i blank) ≡ true
@@ -58,3 +61,12 @@ pub fits_by_figures : {R : Type 0} (figures : R → List ℤ) (hub : Hub) (comma
 fits_by_figures figures hub commands masters backups xs ys b e =
     let fit = fits hub.commands hub.cards commands masters backups hub.steps in
     ap (λ l. fit l (length (map figures ys))) (length-map xs figures) ∙ ap (fit (length xs)) (length-map ys figures) ∙ sym e
+
+-- The same of tables that were tested as they are seen.
+pub fits_by_view : {R : Type 0} (figures : R → List ℤ) (hub : Hub) (tables : Tables R) (view : View R) (b : Bool)
+    → viewed view ≡ held tables
+    → b ≡ fits hub.commands hub.cards view.commands.now view.masters.now view.backups.now hub.steps (length view.master_registers.now) (length view.backup_registers.now)
+    → state_fits (size_of hub) (state_held figures hub tables) ≡ b
+fits_by_view figures hub tables view b same e =
+    ap (λ t. state_fits (size_of hub) (state_in figures hub t)) (sym same)
+    ∙ fits_by_figures figures hub view.commands.now view.masters.now view.backups.now view.master_registers.now view.backup_registers.now b e

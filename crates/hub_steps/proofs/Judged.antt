@@ -1,15 +1,17 @@
 -- From the tests of a step to the model's answer.
-use Rattle.std.proofs.Common.{◌≡◌, ℕ, Bool, true, false, ◌≢◌, Some, None, Err, Result, sym, refl, ap, ◌∙◌, subst}
-use Rattle.std.proofs.lemmas.Bool.{cond-true, cond-false}
+use Rattle.std.proofs.Common.{◌≡◌, ℕ, ◌+◌, Bool, true, false, cond, ◌≢◌, Some, None, Ok, Err, Result, sym, refl, ap, ◌∙◌, subst, arith}
+use Rattle.std.proofs.lemmas.Bool.{cond-true}
+use Rattle.std.proofs.lemmas.Bool.Decides.{nat_tests}
 use Rattle.refusals.specs.Refusals.{number_of}
 use Rattle.refusals.specs.declared.Refusal.{Refusal}
 use Rattle.registers.specs.Kind.{Rule}
-use Rattle.actions.specs.Letters.{action_of, is_of_command}
+use Rattle.actions.specs.Letters.{action_of, is_loss, is_of_command}
 use Rattle.actions.specs.declared.Action.{Action}
 use Rattle.actions.specs.declared.Action.TheVariants.{Starting, MasterDoing, HandlingMasterDone, BackupDoing, DetectingOldMasterId, HandlingBackupDone, HandlingMasterDoFailed, HandlingBackupDoFailed, GettingNewBackup, GettingNewMaster, HandlingBackupGetNewMasterFailed, HandlingMasterGetNewBackupFailed, UpdatingBackupId, UpdatingMasterId, CreatingNewBackup, CreatingNewMaster, KillingMaster, KillingBackup}
 use Rattle.hub_records.specs.Commands.{master_in, backup_in}
 use Rattle.hub_runs.specs.Hubs.{Size, State, client}
 use Rattle.hub_runs.specs.Judging.{Answer, denied, guard, is_numbered, may_lose, is_ready, is_running, carried_out, judged, by_letter, step}
+use Rattle.hub_steps.specs.Counting.{in_order, once_counted}
 use Rattle.hub_steps.specs.Replied.{Replied}
 use Rattle.hub_steps.specs.Seeing.{CommandSteps}
 use Rattle.hub_runs.specs.Fits.{state_fits, step_answer}
@@ -18,11 +20,11 @@ use Rattle.hub_steps.proofs.OfAdvance.{of_advance}
 guard_passes : (b : Bool) (n : ℕ) (answer : Answer) → b ≡ true → guard b n answer ≡ answer
 unfolding guard
 guard_passes true n answer e = refl
-guard_passes false n answer e = let z : ◌≡◌ {A = Answer} (denied n) answer = cc in z
+guard_passes false n answer e = cc
 
 guard_stops : (b : Bool) (n : ℕ) (answer : Answer) → b ≡ false → guard b n answer ≡ denied n
 unfolding guard
-guard_stops true n answer e = let z : ◌≡◌ {A = Answer} answer (denied n) = cc in z
+guard_stops true n answer e = cc
 guard_stops false n answer e = refl
 
 -- A refusal that leaves all as it was.
@@ -59,27 +61,35 @@ module _ (size : Size) (rule : Rule) (a : Action) (c : ℕ) (s : State) where
   unfolding judged
   losses_used_up n e = guard_passes _ 7 _ n ∙ guard_stops _ 8 _ e
 
-  allowed : is_numbered size a c ≡ true → may_lose size a s.killed ≡ true → judged size rule a c s ≡ guard (is_ready a (client s c).phase (client s c).message) 9 (carried_out size rule a c (master_in (client s c).message) (backup_in (client s c).message) s)
+  pub allowed : is_numbered size a c ≡ true → may_lose size a s.killed ≡ true → judged size rule a c s ≡ in_order size rule a c s
   unfolding judged
   allowed n e = guard_passes _ 7 _ n ∙ guard_passes _ 8 _ e
 
-  pub judged_command : (T : Type 0) (r : Result T Refusal) (s' : State) → is_numbered size a c ≡ true → may_lose size a s.killed ≡ true → is_of_command a ≡ true → CommandSteps rule a c s r s' → Replied (judged size rule a c s) s r s'
-  judged_command T r s' n m of steps = subst (λ answer. Replied answer s r s') (sym (allowed n m ∙ of_advance rule c s size a of)) steps
+-- An action on a command is no loss of a card.
+no_loss : (a : Action) → is_of_command a ≡ true → is_loss a ≡ false
+no_loss a of = grind (arith, nat_tests)
 
-  judged_cards : (T : Type 0) (r : Result T Refusal) (s' : State) → is_numbered size a c ≡ true → may_lose size a s.killed ≡ true → is_ready a (client s c).phase (client s c).message ≡ true → ((d m b : ℕ) → Replied (carried_out size rule a d m b s) s r s') → Replied (judged size rule a c s) s r s'
-  judged_cards T r s' n m ready steps =
-      subst (λ answer. Replied answer s r s') (sym (allowed n m ∙ guard_passes _ 9 _ ready)) (steps c (master_in (client s c).message) (backup_in (client s c).message))
+module _ (size : Size) (rule : Rule) (a : Action) (c : ℕ) (s : State) (T : Type 0) (r : Result T Refusal) (s' : State) where
+  pub of_command : is_of_command a ≡ true → CommandSteps rule a c s r (once_counted false r s') → Replied (in_order size rule a c s) s r (once_counted (is_loss a) r s')
+  of_command of steps =
+      subst (λ loss. Replied (in_order size rule a c s) s r (once_counted loss r s')) (sym (no_loss a of))
+      (subst (λ answer. Replied answer s r (once_counted false r s')) (sym (of_advance rule c s size a of)) steps)
+
+  of_cards : is_ready a (client s c).phase (client s c).message ≡ true → ((d m b : ℕ) → Replied (carried_out size rule a d m b s) s r (once_counted (is_loss a) r s')) → Replied (in_order size rule a c s) s r (once_counted (is_loss a) r s')
+  of_cards ready steps =
+      subst (λ answer. Replied answer s r (once_counted (is_loss a) r s')) (sym (guard_passes _ 9 _ ready)) (steps c (master_in (client s c).message) (backup_in (client s c).message))
 
 -- The same where the action is known by an arm of a `match`.
-pub judged_arm : (size : Size) (rule : Rule) (a arm : Action) (c : ℕ) (s : State) (T : Type 0) (r : Result T Refusal) (s' : State) → a ≡ arm → is_numbered size a c ≡ true → may_lose size a s.killed ≡ true → is_ready arm (client s c).phase (client s c).message ≡ true → ((d m b : ℕ) → Replied (carried_out size rule arm d m b s) s r s') → Replied (judged size rule a c s) s r s'
-judged_arm size rule a arm c s T r s' e n m ready steps =
-    subst (λ x. Replied (judged size rule x c s) s r s') (sym e)
-    (judged_cards size rule arm c s T r s' (subst (λ x. is_numbered size x c ≡ true) e n) (subst (λ x. may_lose size x s.killed ≡ true) e m) ready steps)
+pub of_arm : (size : Size) (rule : Rule) (a arm : Action) (c : ℕ) (s : State) (T : Type 0) (r : Result T Refusal) (s' : State) → a ≡ arm → is_ready arm (client s c).phase (client s c).message ≡ true → ((d m b : ℕ) → Replied (carried_out size rule arm d m b s) s r (once_counted (is_loss arm) r s')) → Replied (in_order size rule a c s) s r (once_counted (is_loss a) r s')
+of_arm size rule a arm c s T r s' e ready steps =
+    subst (λ x. Replied (in_order size rule x c s) s r (once_counted (is_loss x) r s')) (sym e) (of_cards size rule arm c s T r s' ready steps)
+
+-- What was carried out is counted.
+pub then_counted : {T : Type 0} (t : T) (answer : Answer) (s s' : State) (loss : Bool) (losses : ℕ) → losses ≡ cond loss (s'.killed + 1) s'.killed → Replied answer s (Ok t) (once_counted loss (Ok t) s') → Replied answer s (Ok t) (record { exec_state = s'.exec_state; clients = s'.clients; master = s'.master; backup = s'.backup; killed = losses; steps = s'.steps + 1; master_figures = s'.master_figures; backup_figures = s'.backup_figures })
+then_counted t answer s s' loss losses is counted =
+    subst (λ k. Replied answer s (Ok t) (record { exec_state = s'.exec_state; clients = s'.clients; master = s'.master; backup = s'.backup; killed = k; steps = s'.steps + 1; master_figures = s'.master_figures; backup_figures = s'.backup_figures })) (sym is) counted
 
 module _ (size : Size) (rule : Rule) (letter c : ℕ) (s : State) where
-  pub misfit : state_fits size s ≡ false → step_answer size rule letter c s ≡ denied 4
-  misfit e = cond-false _ _ _ e
-
   pub finished : state_fits size s ≡ true → is_running s.exec_state ≡ false → step_answer size rule letter c s ≡ denied 5
   unfolding step
   finished f e = cond-true _ _ _ f ∙ guard_stops _ 5 _ e

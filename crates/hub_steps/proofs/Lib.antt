@@ -6,4 +6,3 @@ pub mod CardMakings
 pub mod CardAnswers
 pub mod Fitted
 pub mod Judged
-mod AsAnswered

@@ -1,13 +1,11 @@
 -- A command that moves on makes the hub take the model's step.
-use Rattle.std.proofs.Common.{◌≡◌, ℕ, Bool, true, false, List, ℤ, Some, None, Ok, Err, Option, sym, refl, ap, ◌∙◌, subst, arith}
+use Rattle.std.proofs.Common.{◌≡◌, ℕ, Bool, true, false, List, ℤ, Some, None, Ok, Option, sym, refl, ap, ◌∙◌, subst}
 use Rattle.std.specs.Option.{option_map}
-use Rattle.refusals.specs.Refusals.{number_of}
-use Rattle.refusals.specs.declared.Refusal.{Refusal}
 use Rattle.registers.specs.Kind.{Rule}
 use Rattle.actions.specs.Letters.{is_of_command}
 use Rattle.actions.specs.declared.Action.{Action}
 use Rattle.actions.specs.declared.Action.TheVariants.{Starting, MasterDoing, HandlingMasterDone, BackupDoing, DetectingOldMasterId, HandlingBackupDone, HandlingMasterDoFailed, HandlingBackupDoFailed, GettingNewBackup, GettingNewMaster, HandlingBackupGetNewMasterFailed, HandlingMasterGetNewBackupFailed, UpdatingBackupId, UpdatingMasterId, CreatingNewBackup, CreatingNewMaster, KillingMaster, KillingBackup}
-use Rattle.hub_records.specs.Advance.{Advance, stays, goes, check, by_master, by_backup, advance_of}
+use Rattle.hub_records.specs.Advance.{Advance, goes, check, by_master, by_backup, advance_of}
 use Rattle.hub_records.specs.Commands.{the_master, the_backup, master_in, backup_in}
 use Rattle.hub_cards.specs.Tables.{put}
 use Rattle.hub_records.specs.declared.advance.Effect.{Effect}
@@ -18,7 +16,7 @@ use Rattle.hub_cards.specs.declared.MasterNumber.{MasterNumber}
 use Rattle.hub_records.specs.declared.commands.Command.{Command}
 use Rattle.hub_tables.specs.Search.{active_card}
 use Rattle.hub_runs.specs.Hubs.{Size, State, client, master_card, backup_card}
-use Rattle.hub_runs.specs.Judging.{Answer, denied, moved, guard, by_card, is_ready, carried_out}
+use Rattle.hub_runs.specs.Judging.{Answer, moved, guard, by_card, is_ready, carried_out}
 use Rattle.hub_steps.specs.Applied.{applied, with_clients}
 use Rattle.hub_steps.specs.Replied.{Replied}
 use Rattle.hub_steps.specs.Seeing.{seen_by, hub_answer, CommandSteps}
@@ -55,10 +53,10 @@ module _ (rule : Rule) (c : ℕ) (s : State) where
   of_advance size HandlingMasterGetNewBackupFailed e = tested _ 9 _ _ (tested _ 10 _ _ refl)
   of_advance size UpdatingBackupId e = tested _ 9 _ _ refl
   of_advance size UpdatingMasterId e = tested _ 9 _ _ refl
-  of_advance size CreatingNewBackup e = let z : ◌≡◌ {A = ℕ} 0 1 = cc in let w : ⊥ = omega arith in absurd w
-  of_advance size CreatingNewMaster e = let z : ◌≡◌ {A = ℕ} 0 1 = cc in let w : ⊥ = omega arith in absurd w
-  of_advance size KillingMaster e = let z : ◌≡◌ {A = ℕ} 0 1 = cc in let w : ⊥ = omega arith in absurd w
-  of_advance size KillingBackup e = let z : ◌≡◌ {A = ℕ} 0 1 = cc in let w : ⊥ = omega arith in absurd w
+  of_advance size CreatingNewBackup e = cc
+  of_advance size CreatingNewMaster e = cc
+  of_advance size KillingMaster e = cc
+  of_advance size KillingBackup e = cc
 
   -- The command's place is written, and the effect is applied.
   pub goes_on : (adv : Advance) (y : Command) (effect : Effect) → adv ≡ goes y effect → hub_answer rule c s adv ≡ moved (applied rule effect (client s c).hundredths (with_clients (put s.clients c y) s))
@@ -70,9 +68,6 @@ module _ (rule : Rule) (c : ℕ) (s : State) where
       by_effect (BackupTakes b) = refl
       by_effect Completes = refl
       by_effect GivesUp = refl
-
-  pub stays_so : (adv : Advance) (n : ℕ) → adv ≡ stays n → hub_answer rule c s adv ≡ denied n
-  stays_so adv n e = ap (hub_answer rule c s) e
 
   -- What is seen, from the command that was read.
   abbrev pub seen_from : Command → Seen
@@ -88,9 +83,3 @@ module _ (rule : Rule) (c : ℕ) (s : State) where
       let same : applied rule effect z (with_clients xs s) ≡ applied rule effect (client s c).hundredths (with_clients (put s.clients c y) s) =
       ap (λ k. applied rule effect k (with_clients xs s)) (read ∙ ap (λ k. k.hundredths) e) ∙ ap (λ zs. applied rule effect (client s c).hundredths (with_clients zs s)) place in
       subst (λ ans. Replied {T = T} ans s (Ok t) s') (sym answer) (refl, after ∙ same)
-
-  -- The command was refused, and nothing was written.
-  pub refused_so : (T : Type 0) (action : Action) (x : Command) (seen : Seen) (refusal : Refusal) (s' : State) → x ≡ client s c → seen ≡ seen_from x → stays (number_of refusal) ≡ advance_of action x seen → s' ≡ s → CommandSteps {T = T} rule action c s (Err refusal) s'
-  refused_so T action x seen refusal s' e f moves same =
-      let answer = stays_so (advance_of action (client s c) (seen_by s c)) (number_of refusal) (sym (moves ∙ advance_seen action x seen e f)) in
-      subst (λ ans. Replied {T = T} ans s (Err refusal) s') (sym answer) (refl, same)

@@ -3,5 +3,7 @@ pub mod Replied
 pub mod Seeing
 pub mod Applied
 pub mod CardSteps
+pub mod Held
+pub mod Counting
 pub mod Stepping
 pub mod Steps

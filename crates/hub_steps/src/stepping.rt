@@ -1,10 +1,12 @@
 // The step of a hub, over the tables that the caller lends.
-ghost use Rattle.std.specs.Prelude.{◌≡◌, ℕ, ◌<◌, map};
-ghost use Rattle.actions.specs.declared.Action.TheVariants.{CreatingNewBackup, CreatingNewMaster, KillingBackup, KillingMaster};
-ghost use Rattle.hub_runs.specs.Judging.{carried_out, is_numbered, is_running, judged, may_lose};
+ghost use Rattle.std.specs.Prelude.{◌≡◌, true};
+ghost use Rattle.actions.specs.Letters.{is_loss};
+ghost use Rattle.hub_runs.specs.Judging.{is_numbered, is_running, judged, may_lose};
 ghost use Rattle.hub_steps.specs.Answered.{Answered};
-ghost use Rattle.hub_steps.specs.Replied.{Replied, Untouched, step_reply};
-ghost use Rattle.hub_runs.specs.States.{lent, size_of, state_in, state_of};
+ghost use Rattle.hub_steps.specs.Counting.{in_order, once_counted};
+ghost use Rattle.hub_steps.specs.Held.{state_held};
+ghost use Rattle.hub_steps.specs.Replied.{RegistersUntouched, Replied, step_reply};
+ghost use Rattle.hub_runs.specs.States.{SameSlices, held, size_of, state_in};
 ghost use Rattle.hub_runs.specs.Fits.{step_answer};
 ghost use Rattle.hub_steps.specs.Stepping.{Fitting};
 ghost use Rattle.hub_steps.specs.Steps.{Steps};
@@ -12,262 +14,123 @@ ghost use Rattle.hub_steps.specs.Steps.{Steps};
 use super::card_steps::{create, lose};
 use super::command_steps::step_command;
 use actions::Action;
-use hub_cards::{BackupNumber, Card, CardNumber, MasterNumber};
-use hub_records::commands::Command;
+use hub_cards::{BackupNumber, MasterNumber};
 use hub_records::hub::{ExecState, Hub};
-use hub_tables::fit::tables_fit;
+use hub_tables::tables::Tables;
 use refusals::Refusal;
 use registers::Register;
 
-// Whether the number is one that the action asks for: of a command of the hub, or 0 for an action of the cards alone.
-fn is_numbered(hub: Hub, action: Action, command: usize) -> bool
-    ensures { result ≡ is_numbered (size_of hub) action command }
+// Whether the number is one that the action asks for: of a command of the hub, or 0 for an action of the cards alone, which
+// by a rule of the project goes under that number.
+fn is_numbered(hub: &Hub, action: Action, command: usize) -> bool
+    ensures { result ≡ is_numbered (size_of hub.now) action command }
 {
     if action.is_of_command() {
-        1 <= command && command <= hub.commands as usize
+        (1..=hub.commands as usize).contains(&command)
     } else {
         command == 0
     }
 }
 
 // Whether a loss, if the action is one, is still within what the hub is rated for.
-fn may_lose(hub: Hub, action: Action) -> bool
-    ensures { result ≡ may_lose (size_of hub) action hub.losses }
+fn may_lose(hub: &Hub, action: Action) -> bool
+    ensures { result ≡ may_lose (size_of hub.now) action hub.now.losses }
 {
-    if action.place() >= 16 {
-        hub.losses < hub.kills
-    } else {
-        true
-    }
+    !action.is_loss() || hub.losses < hub.kills
 }
 
-fn is_running(state: ExecState) -> bool
-    ensures { result ≡ is_running state }
+fn is_running(hub: &Hub) -> bool
+    ensures { result ≡ is_running hub.now.state }
 {
-    match state {
-        ExecState::Running => true,
-        ExecState::Success => false,
-        ExecState::Fatal => false,
-    }
+    hub.state == ExecState::Running
 }
 
-// The master makes a new backup.
-fn create_backup<R: Register>(
+// Does what the action asks for, on a hub that runs and whose tables fit. It is not counted yet.
+// A match, and no closure for each action: the list is closed, and each takes other parts of the tables.
+// That they fit is asked, as `Fitting`, of this function, its caller and `step_command`. No type can hold it as a ghost
+// field: a step may take the last room that a count has.
+fn carry_out<R: Register>(
     hub: &mut Hub,
-    commands: &mut [Command],
-    masters: &mut [Card<BackupNumber>],
-    master_registers: &mut [R],
-    backups: &mut [Card<MasterNumber>],
-    backup_registers: &mut [R],
+    tables: &mut Tables<'_, R>,
+    action: Action,
+    command: usize,
 ) -> Result<(), Refusal>
-    requires fitting { Fitting (size_of hub.old) (state_of hub.old commands.old masters.old backups.old (map R.figures master_registers.old) (map R.figures backup_registers.old)) }
+    requires fitting { Fitting (size_of hub.old) (state_held R.figures hub.old tables.old) }
+    requires numbered { is_numbered (size_of hub.old) action command ≡ true }
     ensures size { size_of hub.new ≡ size_of hub.old }
-    ensures answered { (c m b : ℕ) → Replied (carried_out (size_of hub.old) R.rule CreatingNewBackup c m b (state_of hub.old commands.old masters.old backups.old (map R.figures master_registers.old) (map R.figures backup_registers.old))) (state_of hub.old commands.old masters.old backups.old (map R.figures master_registers.old) (map R.figures backup_registers.old)) result (state_of hub.new commands.new masters.new backups.new (map R.figures master_registers.new) (map R.figures backup_registers.new)) }
-    ensures registers { Untouched result master_registers.old master_registers.new backup_registers.old backup_registers.new }
+    ensures counts { (hub.new.losses ≡ hub.old.losses) × (hub.new.steps ≡ hub.old.steps) }
+    ensures answered { let before = state_held R.figures hub.old tables.old in Replied (in_order (size_of hub.old) R.rule action command before) before result (once_counted (is_loss action) result (state_held R.figures hub.new tables.new)) }
+    ensures registers { RegistersUntouched result tables.old tables.new }
+    ensures slices { SameSlices tables.old tables.new }
 {
-    match create::<MasterNumber, BackupNumber, R>(
-        masters,
-        master_registers,
-        backups,
-        backup_registers,
-        hub.cards,
-    ) {
-        Ok(()) => {
-            hub.steps += 1;
-            Ok(())
-        }
-        Err(refusal) => Err(refusal),
-    }
-}
-
-// The backup makes a new master.
-fn create_master<R: Register>(
-    hub: &mut Hub,
-    commands: &mut [Command],
-    masters: &mut [Card<BackupNumber>],
-    master_registers: &mut [R],
-    backups: &mut [Card<MasterNumber>],
-    backup_registers: &mut [R],
-) -> Result<(), Refusal>
-    requires fitting { Fitting (size_of hub.old) (state_of hub.old commands.old masters.old backups.old (map R.figures master_registers.old) (map R.figures backup_registers.old)) }
-    ensures size { size_of hub.new ≡ size_of hub.old }
-    ensures answered { (c m b : ℕ) → Replied (carried_out (size_of hub.old) R.rule CreatingNewMaster c m b (state_of hub.old commands.old masters.old backups.old (map R.figures master_registers.old) (map R.figures backup_registers.old))) (state_of hub.old commands.old masters.old backups.old (map R.figures master_registers.old) (map R.figures backup_registers.old)) result (state_of hub.new commands.new masters.new backups.new (map R.figures master_registers.new) (map R.figures backup_registers.new)) }
-    ensures registers { Untouched result master_registers.old master_registers.new backup_registers.old backup_registers.new }
-{
-    match create::<BackupNumber, MasterNumber, R>(
-        backups,
-        backup_registers,
-        masters,
-        master_registers,
-        hub.cards,
-    ) {
-        Ok(()) => {
-            hub.steps += 1;
-            Ok(())
-        }
-        Err(refusal) => Err(refusal),
-    }
-}
-
-// The master is lost.
-fn kill_master<R: Register>(
-    hub: &mut Hub,
-    commands: &mut [Command],
-    masters: &mut [Card<BackupNumber>],
-    master_registers: &mut [R],
-    backups: &mut [Card<MasterNumber>],
-    backup_registers: &mut [R],
-) -> Result<(), Refusal>
-    requires fitting { Fitting (size_of hub.old) (state_of hub.old commands.old masters.old backups.old (map R.figures master_registers.old) (map R.figures backup_registers.old)) }
-    requires room { hub.old.losses < hub.old.kills }
-    ensures size { size_of hub.new ≡ size_of hub.old }
-    ensures answered { (c m b : ℕ) → Replied (carried_out (size_of hub.old) R.rule KillingMaster c m b (state_of hub.old commands.old masters.old backups.old (map R.figures master_registers.old) (map R.figures backup_registers.old))) (state_of hub.old commands.old masters.old backups.old (map R.figures master_registers.old) (map R.figures backup_registers.old)) result (state_of hub.new commands.new masters.new backups.new (map R.figures master_registers.new) (map R.figures backup_registers.new)) }
-    ensures registers { Untouched result master_registers.old master_registers.new backup_registers.old backup_registers.new }
-{
-    match lose::<MasterNumber>(masters) {
-        Ok(()) => {
-            hub.losses += 1;
-            hub.steps += 1;
-            Ok(())
-        }
-        Err(refusal) => Err(refusal),
-    }
-}
-
-// The backup is lost.
-fn kill_backup<R: Register>(
-    hub: &mut Hub,
-    commands: &mut [Command],
-    masters: &mut [Card<BackupNumber>],
-    master_registers: &mut [R],
-    backups: &mut [Card<MasterNumber>],
-    backup_registers: &mut [R],
-) -> Result<(), Refusal>
-    requires fitting { Fitting (size_of hub.old) (state_of hub.old commands.old masters.old backups.old (map R.figures master_registers.old) (map R.figures backup_registers.old)) }
-    requires room { hub.old.losses < hub.old.kills }
-    ensures size { size_of hub.new ≡ size_of hub.old }
-    ensures answered { (c m b : ℕ) → Replied (carried_out (size_of hub.old) R.rule KillingBackup c m b (state_of hub.old commands.old masters.old backups.old (map R.figures master_registers.old) (map R.figures backup_registers.old))) (state_of hub.old commands.old masters.old backups.old (map R.figures master_registers.old) (map R.figures backup_registers.old)) result (state_of hub.new commands.new masters.new backups.new (map R.figures master_registers.new) (map R.figures backup_registers.new)) }
-    ensures registers { Untouched result master_registers.old master_registers.new backup_registers.old backup_registers.new }
-{
-    match lose::<BackupNumber>(backups) {
-        Ok(()) => {
-            hub.losses += 1;
-            hub.steps += 1;
-            Ok(())
-        }
-        Err(refusal) => Err(refusal),
+    match action {
+        Action::CreatingNewBackup => create::<MasterNumber, BackupNumber, R>(
+            tables.masters,
+            tables.master_registers,
+            tables.backups,
+            tables.backup_registers,
+            hub.cards,
+        ),
+        Action::CreatingNewMaster => create::<BackupNumber, MasterNumber, R>(
+            tables.backups,
+            tables.backup_registers,
+            tables.masters,
+            tables.master_registers,
+            hub.cards,
+        ),
+        Action::KillingMaster => lose::<MasterNumber>(tables.masters),
+        Action::KillingBackup => lose::<BackupNumber>(tables.backups),
+        _ => step_command(hub, tables, action, command),
     }
 }
 
 // The step under an action, on tables that fit, of a hub that runs.
 fn step_under<R: Register>(
     hub: &mut Hub,
-    commands: &mut [Command],
-    masters: &mut [Card<BackupNumber>],
-    master_registers: &mut [R],
-    backups: &mut [Card<MasterNumber>],
-    backup_registers: &mut [R],
+    tables: &mut Tables<'_, R>,
     action: Action,
     command: usize,
 ) -> Result<(), Refusal>
-    requires fitting { Fitting (size_of hub.old) (state_of hub.old commands.old masters.old backups.old (map R.figures master_registers.old) (map R.figures backup_registers.old)) }
+    requires fitting { Fitting (size_of hub.old) (state_held R.figures hub.old tables.old) }
     ensures size { size_of hub.new ≡ size_of hub.old }
-    ensures answered { Replied (judged (size_of hub.old) R.rule action command (state_of hub.old commands.old masters.old backups.old (map R.figures master_registers.old) (map R.figures backup_registers.old))) (state_of hub.old commands.old masters.old backups.old (map R.figures master_registers.old) (map R.figures backup_registers.old)) result (state_of hub.new commands.new masters.new backups.new (map R.figures master_registers.new) (map R.figures backup_registers.new)) }
-    ensures registers { Untouched result master_registers.old master_registers.new backup_registers.old backup_registers.new }
+    ensures answered { let before = state_held R.figures hub.old tables.old in Replied (judged (size_of hub.old) R.rule action command before) before result (state_held R.figures hub.new tables.new) }
+    ensures registers { RegistersUntouched result tables.old tables.new }
+    ensures slices { SameSlices tables.old tables.new }
 {
-    if !is_numbered(*hub, action, command) {
+    if !is_numbered(hub, action, command) {
         return Err(Refusal::NoSuchCommand);
     }
-    if !may_lose(*hub, action) {
+    if !may_lose(hub, action) {
         return Err(Refusal::LossesUsedUp);
     }
-    match action {
-        Action::CreatingNewBackup => create_backup(
-            hub,
-            commands,
-            masters,
-            master_registers,
-            backups,
-            backup_registers,
-        ),
-        Action::CreatingNewMaster => create_master(
-            hub,
-            commands,
-            masters,
-            master_registers,
-            backups,
-            backup_registers,
-        ),
-        Action::KillingMaster => kill_master(
-            hub,
-            commands,
-            masters,
-            master_registers,
-            backups,
-            backup_registers,
-        ),
-        Action::KillingBackup => kill_backup(
-            hub,
-            commands,
-            masters,
-            master_registers,
-            backups,
-            backup_registers,
-        ),
-        _ => step_command(
-            hub,
-            commands,
-            masters,
-            master_registers,
-            backups,
-            backup_registers,
-            action,
-            command,
-        ),
+    carry_out(hub, tables, action, command)?;
+    if action.is_loss() {
+        hub.losses += 1;
     }
+    hub.steps += 1;
+    Ok(())
 }
 
 // The step, judged and carried out.
 fn answer_step<R: Register>(
     hub: &mut Hub,
-    commands: &mut [Command],
-    masters: &mut [Card<BackupNumber>],
-    master_registers: &mut [R],
-    backups: &mut [Card<MasterNumber>],
-    backup_registers: &mut [R],
+    tables: &mut Tables<'_, R>,
     letter: char,
     command: usize,
 ) -> Result<(), Refusal>
     ensures size { size_of hub.new ≡ size_of hub.old }
-    ensures answered { Replied (step_answer (size_of hub.old) R.rule letter command (state_of hub.old commands.old masters.old backups.old (map R.figures master_registers.old) (map R.figures backup_registers.old))) (state_of hub.old commands.old masters.old backups.old (map R.figures master_registers.old) (map R.figures backup_registers.old)) result (state_of hub.new commands.new masters.new backups.new (map R.figures master_registers.new) (map R.figures backup_registers.new)) }
-    ensures registers { Untouched result master_registers.old master_registers.new backup_registers.old backup_registers.new }
+    ensures answered { let before = state_held R.figures hub.old tables.old in Replied (step_answer (size_of hub.old) R.rule letter command before) before result (state_held R.figures hub.new tables.new) }
+    ensures registers { RegistersUntouched result tables.old tables.new }
+    ensures slices { SameSlices tables.old tables.new }
 {
-    if !tables_fit(
-        hub,
-        commands,
-        masters,
-        master_registers.len(),
-        backups,
-        backup_registers.len(),
-    ) {
+    if !tables.view().fit(hub) {
         return Err(Refusal::TablesMisfit);
     }
-    if !is_running(hub.state) {
+    if !is_running(hub) {
         return Err(Refusal::HubFinished);
     }
-    match Action::from_letter(letter) {
-        Some(action) => step_under(
-            hub,
-            commands,
-            masters,
-            master_registers,
-            backups,
-            backup_registers,
-            action,
-            command,
-        ),
-        None => Err(Refusal::UnknownLetter),
-    }
+    let action = Action::try_from(letter).map_err(|_| Refusal::UnknownLetter)?;
+    step_under(hub, tables, action, command)
 }
 
 /// A step, by its letter and the number of its command, which is 0 for a step of the cards alone.
@@ -276,27 +139,15 @@ fn answer_step<R: Register>(
 /// A run goes on as a run: what is promised of runs holds after the step as well.
 pub fn step<R: Register>(
     hub: &mut Hub,
-    commands: &mut [Command],
-    masters: &mut [Card<BackupNumber>],
-    master_registers: &mut [R],
-    backups: &mut [Card<MasterNumber>],
-    backup_registers: &mut [R],
+    tables: &mut Tables<'_, R>,
     letter: char,
     command: usize,
 ) -> Result<(), Refusal>
     ensures size { size_of hub.new ≡ size_of hub.old }
-    ensures answered { Answered (step_answer (size_of hub.old) R.rule letter command (state_of hub.old commands.old masters.old backups.old (map R.figures master_registers.old) (map R.figures backup_registers.old))) (state_of hub.old commands.old masters.old backups.old (map R.figures master_registers.old) (map R.figures backup_registers.old)) result (state_of hub.new commands.new masters.new backups.new (map R.figures master_registers.new) (map R.figures backup_registers.new)) }
-    ensures steps { Steps R.start R.rule (size_of hub.old) letter command (state_in R.figures hub.old (lent commands.old masters.old master_registers.old backups.old backup_registers.old)) (step_reply result) (state_in R.figures hub.new (lent commands.new masters.new master_registers.new backups.new backup_registers.new)) }
-    ensures registers { Untouched result master_registers.old master_registers.new backup_registers.old backup_registers.new }
+    ensures answered { let before = state_in R.figures hub.old (held tables.old) in Answered (step_answer (size_of hub.old) R.rule letter command before) before result (state_in R.figures hub.new (held tables.new)) }
+    ensures steps { Steps R.start R.rule (size_of hub.old) letter command (state_in R.figures hub.old (held tables.old)) (step_reply result) (state_in R.figures hub.new (held tables.new)) }
+    ensures registers { RegistersUntouched result tables.old tables.new }
+    ensures slices { SameSlices tables.old tables.new }
 {
-    answer_step(
-        hub,
-        commands,
-        masters,
-        master_registers,
-        backups,
-        backup_registers,
-        letter,
-        command,
-    )
+    answer_step(hub, tables, letter, command)
 }

@@ -1,3 +1,2 @@
 pub mod Searches
 pub mod SearchSteps
-pub mod FitSteps

@@ -16,17 +16,10 @@ pub first_end : {P : Type 0} (test : Status → Bool) (cards : List (Card P)) (i
 unfolding first
 first_end test cards i past = at_drop_all (first test (i + 1)) cards i past
 
-or_else_nothing : (o : Option ℕ) → o ≡ or_else o None
-or_else_nothing None = refl
-or_else_nothing (Some n) = refl
-
 or_else_here : (o : Option ℕ) (here : Bool) (n : ℕ) (found : Option ℕ) → or_else (or_else o (cond here (Some n) None)) found ≡ or_else o (cond here (Some n) found)
 or_else_here None true n found = refl
 or_else_here None false n found = refl
 or_else_here (Some m) here n found = refl
-
-pub last_start : {P : Type 0} (test : Status → Bool) (cards : List (Card P)) → last test 1 cards ≡ or_else (last test 1 cards) None
-last_start test cards = or_else_nothing (last test 1 cards)
 
 pub last_step : {P : Type 0} (test : Status → Bool) (cards : List (Card P)) (i : ℕ) (card : Card P) (found : Option ℕ) → i < length cards → card ≡ get_or cards i card → or_else (last test (i + 1) (drop i cards)) found ≡ or_else (last test (i + 1 + 1) (drop (i + 1) cards)) (cond (test card.status) (Some (i + 1)) found)
 unfolding last

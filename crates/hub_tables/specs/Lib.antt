@@ -1,3 +1,4 @@
 pub mod Search
 pub mod SearchLaws
 pub mod Fit
+pub mod Lent

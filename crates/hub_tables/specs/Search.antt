@@ -1,5 +1,5 @@
 -- The searches over the cards of a role. Each answers a card's number, from 1.
-use Rattle.std.specs.Prelude.{ℕ, suc, Bool, cond, List, [], ◌∷◌, Some, None, Option}
+use Rattle.std.specs.Prelude.{◌≡◌, ℕ, suc, Bool, cond, List, [], ◌∷◌, Some, None, Option}
 use Rattle.hub_cards.specs.Statuses.{is_active, is_lost, is_used}
 use Rattle.hub_cards.specs.declared.Card.{Card}
 use Rattle.hub_cards.specs.declared.Status.{Status}
@@ -8,6 +8,10 @@ use Rattle.hub_cards.specs.declared.Status.{Status}
 unfoldable pub first : {P : Type 0} → (Status → Bool) → ℕ → List (Card P) → Option ℕ
 first test n [] = None
 first test n (card ∷ cards) = cond (test card.status) (Some n) (first test (suc n) cards)
+
+-- Answers that stand to a status in this relation are those of the test.
+abbrev pub Tells : (Status → Bool → Type 0) → (Status → Bool) → Type 0
+Tells answers test = (status : Status) (answer : Bool) → answers status answer → answer ≡ test status
 
 abbrev pub or_else : Option ℕ → Option ℕ → Option ℕ
 or_else None other = other

@@ -1,14 +1,13 @@
 // Whether the tables of a hub fit together.
-ghost use Rattle.std.specs.Prelude.{◌≡◌};
+ghost use Rattle.std.specs.Prelude.{◌≡◌, length};
 ghost use Rattle.std.specs.List.{list_all};
 ghost use Rattle.hub_tables.specs.Fit.{card_fits, command_fits, fits, has_room, lengths_fit, message_fits, numbers_fit, pair_fits};
 
+use super::tables::View;
 use hub_cards::{BackupNumber, Card, CardNumber, MasterNumber};
 use hub_records::commands::{Command, Message, Phase};
 use hub_records::hub::Hub;
-
-/// The largest move either way, in hundredths of a degree.
-const LIMIT: u32 = 9000;
+use registers::Move;
 
 // Whether a count has room for one more.
 fn has_room(count: u32) -> bool
@@ -24,36 +23,24 @@ fn pair_fits(cards: usize, master: MasterNumber, backup: BackupNumber) -> bool
     master.0 <= cards && backup.0 <= cards
 }
 
+// Whether the numbers that a message carries are of so many cards.
 fn numbers_fit(cards: usize, message: Message) -> bool
     ensures { result ≡ numbers_fit cards message }
 {
-    match message {
-        Message::MasterDo(master) => master.0 <= cards,
-        Message::MasterDone(master, backup)
-        | Message::BackupDo(master, backup)
-        | Message::BackupDone(master, backup)
-        | Message::MasterGetNewBackup(master, backup)
-        | Message::BackupGetNewMaster(master, backup)
-        | Message::NewBackupId(master, backup)
-        | Message::NewMasterId(master, backup) => pair_fits(cards, master, backup),
-    }
+    message.master().0 <= cards && message.backup().is_none_or(|backup| backup.0 <= cards)
 }
 
 // Whether a command in this phase may hold this message, or none.
 fn message_fits(cards: usize, phase: Phase, message: Option<Message>) -> bool
     ensures { result ≡ message_fits cards phase message }
 {
-    match (phase, message) {
-        (_, None) => true,
-        (Phase::Working, Some(message)) => numbers_fit(cards, message),
-        (_, Some(_)) => false,
-    }
+    message.is_none_or(|message| phase == Phase::Working && numbers_fit(cards, message))
 }
 
 fn command_fits(cards: usize, command: Command) -> bool
     ensures { result ≡ command_fits cards command }
 {
-    command.hundredths.unsigned_abs() <= LIMIT
+    command.hundredths.unsigned_abs() <= Move::LIMIT
         && pair_fits(cards, command.own_master, command.own_backup)
         && message_fits(cards, command.phase, command.message)
 }
@@ -67,67 +54,37 @@ fn card_fits<P: CardNumber>(cards: usize, card: Card<P>) -> bool
 fn commands_fit(cards: usize, commands: &[Command]) -> bool
     ensures { result ≡ list_all (command_fits cards) commands.now }
 {
-    for command in commands {
-        if !command_fits(cards, *command) {
-            return false;
-        }
-    }
-    true
+    commands.iter().all(|&command| command_fits(cards, command))
 }
 
 fn cards_fit<P: CardNumber>(cards: usize, table: &[Card<P>]) -> bool
     ensures { result ≡ list_all (card_fits P.CardNumber.plain cards) table.now }
 {
-    for card in table {
-        if !card_fits(cards, *card) {
-            return false;
-        }
+    table.iter().all(|&card| card_fits(cards, card))
+}
+
+impl<R> View<'_, R> {
+    /// Whether there are so many commands, and so many cards and registers of each role.
+    pub fn lengths_fit(&self, commands: usize, cards: usize) -> bool
+        ensures { result ≡ lengths_fit commands cards (length self.now.commands.now) (length self.now.masters.now) (length self.now.master_registers.now) (length self.now.backups.now) (length self.now.backup_registers.now) }
+    {
+        self.commands.len() == commands
+            && self.masters.len() == cards
+            && self.master_registers.len() == cards
+            && self.backups.len() == cards
+            && self.backup_registers.len() == cards
     }
-    true
-}
 
-// Whether there are as many commands, cards and registers as the hub has.
-fn lengths_fit(
-    hub: &Hub,
-    commands: usize,
-    masters: usize,
-    master_registers: usize,
-    backups: usize,
-    backup_registers: usize,
-) -> bool
-    ensures { result ≡ lengths_fit hub.now.commands hub.now.cards commands masters master_registers backups backup_registers }
-{
-    let cards = hub.cards as usize;
-    commands == hub.commands as usize
-        && masters == cards
-        && master_registers == cards
-        && backups == cards
-        && backup_registers == cards
-}
-
-/// Whether the tables of a hub fit together: their lengths are those that the hub has, no record has the number of a card
-/// that there is not, each move keeps to the limits, only working commands hold a message, and every count has room.
-/// The tables of registers are given by their lengths.
-pub fn tables_fit(
-    hub: &Hub,
-    commands: &[Command],
-    masters: &[Card<BackupNumber>],
-    master_registers: usize,
-    backups: &[Card<MasterNumber>],
-    backup_registers: usize,
-) -> bool
-    ensures { result ≡ fits hub.now.commands hub.now.cards commands.now masters.now backups.now hub.now.steps master_registers backup_registers }
-{
-    let cards = hub.cards as usize;
-    lengths_fit(
-        hub,
-        commands.len(),
-        masters.len(),
-        master_registers,
-        backups.len(),
-        backup_registers,
-    ) && has_room(hub.steps)
-        && commands_fit(cards, commands)
-        && cards_fit(cards, masters)
-        && cards_fit(cards, backups)
+    /// Whether the tables of a hub fit together: their lengths are those that the hub has, no record has the number of a card
+    /// that there is not, each move keeps to the limits, only working commands hold a message, and every count has room.
+    pub fn fit(&self, hub: &Hub) -> bool
+        ensures { result ≡ fits hub.now.commands hub.now.cards self.now.commands.now self.now.masters.now self.now.backups.now hub.now.steps (length self.now.master_registers.now) (length self.now.backup_registers.now) }
+    {
+        let cards = hub.cards as usize;
+        self.lengths_fit(hub.commands as usize, cards)
+            && has_room(hub.steps)
+            && commands_fit(cards, self.commands)
+            && cards_fit(cards, self.masters)
+            && cards_fit(cards, self.backups)
+    }
 }

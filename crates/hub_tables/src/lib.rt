@@ -3,5 +3,6 @@
 
 pub mod fit;
 pub mod search;
+pub mod tables;
 #[cfg(test)]
 mod tests;

@@ -6,8 +6,10 @@ use anyhow::anyhow;
 use hub::{Answer, Call, run};
 use hub_cards::*;
 use hub_records::commands::*;
-use hub_records::hub::ExecState;
+use hub_records::hub::Counts;
 use hub_records::look::Look;
+use hub_tables::tables::Tables;
+use refusals::Refusal;
 use registers::{Register, Sum};
 
 // The letters of the steps and the numbers of their commands.
@@ -36,18 +38,10 @@ const STEPS: [(char, usize); 22] = [
     ('F', 2),
 ];
 
-fn state_name(state: ExecState) -> &'static str {
-    match state {
-        ExecState::Running => "running",
-        ExecState::Success => "success",
-        ExecState::Fatal => "fatal",
-    }
-}
-
 fn print_look(rt: HostRuntime, look: Look) -> anyhow::Result<()> {
     println!(rt;
         "  {}, {} steps, {} losses, {} done, master {} version {}, backup {} version {}",
-        state_name(look.state),
+        look.state.name(),
         look.steps,
         look.losses,
         look.done,
@@ -59,78 +53,52 @@ fn print_look(rt: HostRuntime, look: Look) -> anyhow::Result<()> {
     Ok(())
 }
 
-fn print_answer(rt: HostRuntime, call: Call, answer: Answer) -> anyhow::Result<()> {
-    if let Call::Step { letter, command } = call {
-        match answer {
-            Answer::Stepped => println!(rt; "{letter}{command}: stepped")?,
-            Answer::Refused(refusal) => {
-                println!(rt; "{letter}{command}: refused {}", refusal.number())?
-            }
-            Answer::Seen(_) => println!(rt; "{letter}{command}: seen")?,
+fn print_answer(
+    rt: HostRuntime,
+    call: Call,
+    answer: Result<Answer, Refusal>,
+) -> anyhow::Result<()> {
+    match (call, answer) {
+        (_, Ok(Answer::Seen(look))) => print_look(rt, look)?,
+        (Call::Step { letter, command }, Ok(Answer::Stepped)) => {
+            println!(rt; "{letter}{command}: stepped")?
         }
-    } else if let Answer::Seen(look) = answer {
-        print_look(rt, look)?;
+        (Call::Step { letter, command }, Err(refusal)) => {
+            println!(rt; "{letter}{command}: refused {}", refusal.number())?
+        }
+        (Call::Look, _) => {}
     }
     Ok(())
-}
-
-// A command that holds nothing yet: making the hub writes over it.
-fn blank() -> Command {
-    Command {
-        hundredths: 0,
-        phase: Phase::Pending,
-        own_master: MasterNumber(0),
-        own_backup: BackupNumber(0),
-        message: None,
-    }
-}
-
-fn blank_card<P>(partner: P) -> Card<P> {
-    Card {
-        status: Status::Unused,
-        partner,
-        version: 0,
-    }
 }
 
 // Each step, and a look after it.
 fn plan() -> [Call; 44] {
     let mut calls = [Call::Look; 44];
-    for (i, (letter, command)) in STEPS.iter().enumerate() {
-        if i < 22 {
-            calls[2 * i] = Call::Step {
-                letter: *letter,
-                command: *command,
-            };
-        }
+    for (call, (letter, command)) in calls.iter_mut().step_by(2).zip(STEPS) {
+        *call = Call::Step { letter, command };
     }
     calls
 }
 
 fn main(rt: HostRuntime) -> anyhow::Result<()> {
     let calls = plan();
-    let mut table = [blank(), blank()];
-    let mut masters = [blank_card(BackupNumber(0)), blank_card(BackupNumber(0))];
-    let mut backups = [blank_card(MasterNumber(0)), blank_card(MasterNumber(0))];
-    let mut master_registers = [Sum::empty(), Sum::empty()];
-    let mut backup_registers = [Sum::empty(), Sum::empty()];
-    let mut answers = [Answer::Stepped; 44];
-    match run(
-        2,
-        1,
-        2,
-        &[150, -125],
-        &mut table,
-        &mut masters,
-        &mut master_registers,
-        &mut backups,
-        &mut backup_registers,
-        &calls,
-        &mut answers,
-    ) {
-        Ok(_) => {}
-        Err(_) => return Err(anyhow!("the hub was not made")),
-    }
+    let mut answers = [Ok(Answer::Stepped); 44];
+    // The arrays are the caller's: a `Tables` only borrows them.
+    let mut tables = Tables {
+        commands: &mut [Command::blank(); 2],
+        masters: &mut [Card::unused(BackupNumber(0)); 2],
+        master_registers: &mut [Sum::empty(); 2],
+        backups: &mut [Card::unused(MasterNumber(0)); 2],
+        backup_registers: &mut [Sum::empty(); 2],
+    };
+    let counts = Counts {
+        commands: 2,
+        kills: 1,
+        cards: 2,
+    };
+    run(counts, &[150, -125], &mut tables, &calls, &mut answers).map_err(|_| anyhow!(
+        "the hub was not made"
+    ))?;
     for (call, answer) in calls.iter().zip(answers.iter()) {
         print_answer(rt, *call, *answer)?;
     }

@@ -1,5 +1,5 @@
 -- The outcome of a line, from what was found of it.
-use Rattle.std.proofs.Common.{◌≡◌, ℕ, suc, ◌+◌, ◌-◌, ◌<◌, ◌≤◌, true, false, ◌&&◌, eqb, leb, List, [], ◌∷◌, ◌++◌, length, drop, Some, None, Option, sym, refl, ap, ◌∙◌, subst, ⊎_elim, arith, length-append, length-drop}
+use Rattle.std.proofs.Common.{◌≡◌, ℕ, suc, ◌+◌, ◌-◌, ◌<◌, ◌≤◌, true, false, ◌&&◌, eqb, leb, List, [], ◌∷◌, ◌++◌, length, drop, Some, None, Option, sym, refl, ap, ◌∙◌, ⊎_elim, arith, length-append, length-drop}
 use Rattle.std.proofs.lemmas.List.{drop_all, drop-drop}
 use Rattle.std.proofs.lemmas.Bool.{cond-true, cond-false, cond_both, cases_lt, le-leb, lt-leb}
 use Rattle.refusals.specs.declared.Refusal.TheVariants.{JournalTooLong, LineNotDue}
@@ -10,7 +10,7 @@ use Rattle.journal.specs.Outcomes.{finished, refused, value_at, by_value, by_ent
 use Rattle.journal.specs.declared.keys.Key.{Key}
 use Rattle.journal.specs.declared.lines.Part.{Part}
 use Rattle.journal.specs.declared.place.Place.{Place}
-use Rattle.journal.specs.declared.registers.Accepted.{Accepted}
+use Rattle.journal.specs.declared.kinds.Accepted.{Accepted}
 use Rattle.journal.proofs.Splits.{after_front_some}
 
 module _ (accepts : Accepted) (key : Key) (line : ℕ) where
@@ -23,10 +23,6 @@ module _ (accepts : Accepted) (key : Key) (line : ℕ) where
   of_value bytes value entry stands e =
       let found : value_at key (rows_of bytes) ≡ Some value = ap (value_at key) stands.rows ∙ after_front_some (front_of key) value in
       ap (by_entry line) e ∙ sym (ap (by_value accepts key line) found)
-
-pub passed_as : {text : List ℕ} {key : Key} {before after after' : Place} {value value' : Part} → Passed text key before after value → after' ≡ after → value' ≡ value → Passed text key before after' value'
-passed_as {text} {key} {before} {after} {after'} {value} {value'} passed a v =
-    subst (λ x. Passed text key before x value') (sym a) (subst (λ x. Passed text key before after x) (sym v) passed)
 
 -- A line that was handed out ends within the journal, and is at least one byte long.
 pub passed_inside : {text : List ℕ} {key : Key} {before after : Place} {value : Part} → Passed text key before after value → before.at ≤ length text → (after.at ≤ length text) × (before.at + 1 ≤ after.at)

@@ -1,8 +1,10 @@
 -- Where a text is cut: at its first line feed, and behind a front.
-use Rattle.std.proofs.Common.{◌≡◌, ℕ, zero, suc, ◌+◌, ◌<◌, List, [], ◌∷◌, ◌++◌, length, get_or, take, drop, Some, None, Option, sym, refl, ap, ◌∙◌, ⊎_elim, append_assoc, add-one, arith, length-append, take-append-drop, Bor, MatchOption}
+use Rattle.std.proofs.Common.{◌≡◌, ℕ, zero, suc, ◌+◌, ◌<◌, List, [], ◌∷◌, ◌++◌, length, get_or, take, drop, Some, None, Option, sym, refl, ap, ◌∙◌, ⊎_elim, append_assoc, add-one, arith, length-append, take-append-drop, Bor, MatchOption, eqb, ltb}
 use Rattle.std.specs.Option.{option_map}
 use Rattle.std.proofs.lemmas.List.{length-take-le, drop_more}
-use Rattle.std.proofs.lemmas.Bool.{cond-true, cond-false, eq-eqb, ne_eqb, cases_eq}
+use Rattle.std.specs.List.{position, position_or_len}
+use Rattle.std.proofs.lemmas.List.Sums.{fails_before_first, passes_at_first}
+use Rattle.std.proofs.lemmas.Bool.{cond-true, cond-false, cond_both, eq-eqb, eqb-true, eqb-false, ltb-true, ltb-false, ne_eqb, cases_eq}
 use Rattle.journal.specs.Keys.{front_of}
 use Rattle.journal.specs.Outcomes.{value_at, Stands, line_length}
 use Rattle.journal.specs.declared.keys.Key.{Key}
@@ -33,6 +35,19 @@ rows_at_feed (b ∷ bs) zero l none here = at_feed b bs here
 rows_at_feed (b ∷ bs) (suc n) l none here =
     let rest = rw add-one at (rows_at_feed bs n (omega arith) (λ k m. none (suc k) (omega arith)) here) in
     rw add-one (before_feed b bs (none 0 (omega arith)) ∙ ap (byte_before b) rest)
+
+pub at_position : (bs : List ℕ) → MatchOption (position (λ b. eqb b 10) bs) (rows_of bs ≡ rest_without_feed bs) (λ n. FirstRow bs n)
+at_position bs =
+    let n : ℕ = position_or_len (λ b. eqb b 10) bs in
+    cond_both (ltb n (length bs)) (Some n) None (λ r. MatchOption r (rows_of bs ≡ rest_without_feed bs) (λ i. FirstRow bs i))
+    (λ e.
+    let inside : n < length bs = ltb-true _ _ e in
+    let feed : get_or bs n 0 ≡ 10 = eqb-true _ _ (passes_at_first (λ b. eqb b 10) bs 0 inside) in
+    record { inside = inside; feed = feed; rows = rows_at_feed bs n inside before feed })
+    (λ e. rows_without_feed bs (λ k l. before k (omega (arith, ltb-false n (length bs) e))))
+  where
+    before : (k : ℕ) → k < position_or_len (λ b. eqb b 10) bs → get_or bs k 0 ≡ 10 → ⊥
+    before k l = eqb-false _ _ (fails_before_first (λ b. eqb b 10) bs k 0 l)
 
 pub after_front_some : (front rest : List ℕ) → after_front front (front ++ rest) ≡ Some rest
 unfolding after_front

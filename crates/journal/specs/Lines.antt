@@ -1,5 +1,6 @@
 -- What a line that was handed out says, and which bytes of the journal it holds.
-use Rattle.std.specs.Prelude.{◌≡◌, ◌+◌, ◌≤◌, drop, unsigned_abs}
+use Rattle.std.specs.Prelude.{◌≡◌, ◌+◌, ◌≤◌, drop}
+use Rattle.registers.specs.Numbers.{number_of}
 use Rattle.journal.specs.Values.{Entry, commands, kills, cards, register, move, step}
 use Rattle.journal.specs.declared.lines.Part.{Part}
 use Rattle.journal.specs.declared.lines.Line.{Line}
@@ -9,8 +10,8 @@ abbrev pub entry_of : Line → Entry
 entry_of (Commands value count) = commands count
 entry_of (Kills value count) = kills count
 entry_of (Cards value count) = cards count
-entry_of (Register value kind) = register kind
-entry_of (Move value hundredths) = move hundredths
+entry_of (Register value kind) = register (number_of kind)
+entry_of (Move value taken) = move taken.hundredths
 entry_of (Step value number action command) = step action command
 
 -- The bytes behind the equals sign, with their place in the journal.
@@ -19,20 +20,20 @@ value_of (Commands value count) = value
 value_of (Kills value count) = value
 value_of (Cards value count) = value
 value_of (Register value kind) = value
-value_of (Move value hundredths) = value
+value_of (Move value taken) = value
 value_of (Step value number action command) = value
 
 -- A step's number is its value without the letter.
 abbrev pub Behind : Part → Part → Type 0
 Behind value number = (number.text.now ≡ drop 1 value.text.now) × (number.at ≡ value.at + 1)
 
--- What a caller may rely on besides: a move keeps its limits, and a step's number stands behind its letter.
+-- What a caller may rely on besides: a step's number stands behind its letter. That a move keeps its limits is in its type.
 abbrev pub Sound : Line → Type 0
 Sound (Commands value count) = Unit {0}
 Sound (Kills value count) = Unit {0}
 Sound (Cards value count) = Unit {0}
 Sound (Register value kind) = Unit {0}
-Sound (Move value hundredths) = unsigned_abs hundredths ≤ 9000
+Sound (Move value taken) = Unit {0}
 Sound (Step value number action command) = Behind value number
 
 -- And counts keep theirs.
@@ -41,5 +42,5 @@ Limited (Commands value count) = (1 ≤ count) × (count ≤ 64)
 Limited (Kills value count) = count ≤ 7
 Limited (Cards value count) = (1 ≤ count) × (count ≤ 8)
 Limited (Register value kind) = Unit {0}
-Limited (Move value hundredths) = Unit {0}
+Limited (Move value taken) = Unit {0}
 Limited (Step value number action command) = Unit {0}

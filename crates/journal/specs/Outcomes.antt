@@ -10,7 +10,7 @@ use Rattle.journal.specs.declared.keys.Key.{Key}
 use Rattle.journal.specs.declared.lines.Line.{Line}
 use Rattle.journal.specs.declared.lines.Part.{Part}
 use Rattle.journal.specs.declared.place.Place.{Place}
-use Rattle.journal.specs.declared.registers.Accepted.{Accepted}
+use Rattle.journal.specs.declared.kinds.Accepted.{Accepted}
 
 pub data Outcome : Type 0 where
   accepted : Entry → Outcome

@@ -4,11 +4,12 @@ use Rattle.std.specs.Option.{option_map}
 use Rattle.std.specs.Str.{bytes_eq}
 use Rattle.actions.specs.Letters.{action_of, is_of_command}
 use Rattle.actions.specs.declared.Action.{Action}
+use Rattle.registers.specs.Numbers.{code_of}
 use Rattle.journal.specs.Numbers.{is_empty, number_up_to, number_between}
 use Rattle.journal.specs.declared.keys.Key.{Key}
 use Rattle.journal.specs.declared.keys.Key.TheVariants.{Commands, Kills, Cards, Register, Move, Step}
-use Rattle.journal.specs.declared.registers.Accepted.{Accepted}
-use Rattle.journal.specs.declared.registers.Accepted.TheVariants.{AnyNamed, Only}
+use Rattle.journal.specs.declared.kinds.Accepted.{Accepted}
+use Rattle.journal.specs.declared.kinds.Accepted.TheVariants.{AnyNamed, Only}
 
 -- What one line says.
 pub data Entry : Type 0 where
@@ -26,7 +27,7 @@ kind_named text = cond (bytes_eq text (codes "sum")) (Some 1) (cond (bytes_eq te
 -- Whether a reader takes a journal of this kind of register.
 abbrev pub is_accepted : Accepted → ℕ → Bool
 is_accepted AnyNamed kind = true
-is_accepted (Only wanted) kind = wanted == kind
+is_accepted (Only wanted) kind = code_of wanted == kind
 
 abbrev pub if_accepted : Accepted → Option ℕ → Option ℕ
 if_accepted accepts None = None

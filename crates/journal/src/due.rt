@@ -1,4 +1,5 @@
-// Taking the line that is due.
+// Taking the line that is due. These are functions over the place, and not methods of the reader, since the guard holds
+// the reader's place while a line is taken.
 ghost use Rattle.std.specs.Prelude.{◌≡◌, ◌+◌, ◌≤◌, ◌∷◌, ◌++◌, length, drop, None, IfOk, MatchOption, MatchResult};
 ghost use Rattle.journal.specs.Keys.{front_of};
 ghost use Rattle.journal.specs.Lines.{value_of, Limited, Sound};
@@ -6,9 +7,9 @@ ghost use Rattle.journal.specs.Outcomes.{Passed, line_outcome, result_outcome, v
 ghost use Rattle.journal.specs.Rows.{rows_of};
 
 use super::keys::Key;
+use super::kinds::Accepted;
 use super::lines::{Line, Part};
 use super::place::{Place, Restore};
-use super::registers::Accepted;
 use super::rows::row_value;
 use super::values::read_value;
 use refusals::Refusal;
@@ -21,9 +22,7 @@ fn take_value<'a>(text: &'a [u8], place: &mut Place, key: Key) -> Option<Part<'a
     ensures { MatchOption result ((value_at key (rows_of (drop place.old.at text.now)) ≡ None) × (place.new ≡ place.old)) (λ value. Passed text.now key place.old place.new value) }
 {
     let at = place.at;
-    let Some(value) = row_value(&text[at..], key) else {
-        return None;
-    };
+    let value = row_value(&text[at..], key)?;
     let value_at = at + key.front().len();
     place.at = value_at + value.len() + 1;
     place.line += 1;
@@ -49,12 +48,10 @@ pub(crate) fn take_line<'a>(
 {
     let saved = *place;
     let guard = Restore { place, saved };
-    let Some(value) = take_value(text, guard.place, key) else {
-        return Err(Refusal::LineNotDue { line: saved.line });
-    };
-    let Some(line) = read_value(accepts, key, value) else {
-        return Err(Refusal::ValueNotAllowed { line: saved.line });
-    };
+    let value = take_value(text, guard.place, key).ok_or(Refusal::LineNotDue { line: saved.line })?;
+    let line = read_value(accepts, key, value).ok_or(Refusal::ValueNotAllowed {
+        line: saved.line,
+    })?;
     guard.accept();
     Ok(line)
 }

@@ -2,7 +2,7 @@
 ghost use Rattle.std.specs.Prelude.{◌≡◌};
 ghost use Rattle.journal.specs.Keys.{front_of, due_key, may_end};
 
-#[derive(Clone, Copy)]
+#[derive(Clone, Copy, Debug, PartialEq, Eq)]
 pub enum Key {
     Commands,
     Kills,
@@ -45,6 +45,6 @@ impl Key {
     pub fn may_end(self) -> bool
         ensures { result ≡ may_end self }
     {
-        matches!(self, Key::Step)
+        self == Key::Step
     }
 }

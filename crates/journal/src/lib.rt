@@ -3,10 +3,10 @@
 
 mod due;
 pub mod keys;
+pub mod kinds;
 pub mod lines;
 pub mod numbers;
 pub mod place;
 pub mod reader;
-pub mod registers;
 mod rows;
 mod values;

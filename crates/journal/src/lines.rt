@@ -1,15 +1,18 @@
 // A line of a journal as the reader hands it out: what it says, and the bytes that say it.
 use actions::Action;
+use registers::{Kind, Move};
 
 // Bytes of the journal, and their place in it.
-#[derive(Clone, Copy)]
+#[derive(Clone, Copy, Debug, PartialEq, Eq)]
 pub struct Part<'a> {
     pub text: &'a [u8],
     pub at: usize,
 }
 
 // The cases stand in the order in which they are due. `value` is what follows the equals sign.
-#[derive(Clone, Copy)]
+// Each case holds its value, since a caller matches the line and takes both from the case. The limits of a move stand in its
+// type; those of the counts stand in clauses, as an enum has no ghost fields, and it would take a type for each of the counts.
+#[derive(Clone, Copy, Debug, PartialEq, Eq)]
 pub enum Line<'a> {
     Commands {
         value: Part<'a>,
@@ -25,13 +28,13 @@ pub enum Line<'a> {
     },
     Register {
         value: Part<'a>,
-        kind: u8,
+        kind: Kind,
     },
     Move {
         value: Part<'a>,
-        hundredths: i32,
+        taken: Move,
     },
-    // `number` is what follows the letter; the command is 0 where the action is of no command.
+    // `number` is what follows the letter; the command is 0 where the action is of no command, as in a step of the hub.
     Step {
         value: Part<'a>,
         number: Part<'a>,

@@ -7,15 +7,16 @@ ghost use Rattle.journal.specs.Rows.{rows_of};
 
 use super::due::take_line;
 use super::keys::Key;
+use super::kinds::Accepted;
 use super::lines::Line;
 use super::place::Place;
-use super::registers::Accepted;
 use refusals::Refusal;
 
 // The longest journal that is read, in bytes.
 pub const LONGEST: usize = 65536;
 
-// A journal, the place of its next line, and how many commands it has told of (0 before that line).
+// A journal, the place of its next line, and how many commands it has told of: 0 before that line, and no Option, as which
+// line is due depends on it only from the fifth line on.
 #[derive(Drop)]
 pub struct Reader<'a> {
     text: &'a [u8],
@@ -44,7 +45,7 @@ impl<'a> Reader<'a> {
     pub fn place(&self) -> Place
         ensures { result ≡ self.now.place }
     {
-        Place { ..self.place }
+        self.place
     }
 
     // The next line; none where the journal ends as it may. On a refusal the reader stays where it is.
@@ -63,13 +64,9 @@ impl<'a> Reader<'a> {
         if has_ended(text, self.place.at, key) {
             return Ok(None);
         }
-        match take_line(text, &mut self.place, key, accepts) {
-            Ok(line) => {
-                self.commands = commands_after(self.commands, line);
-                Ok(Some(line))
-            }
-            Err(refusal) => Err(refusal),
-        }
+        let line = take_line(text, &mut self.place, key, accepts)?;
+        self.commands = commands_after(self.commands, line);
+        Ok(Some(line))
     }
 }
 
@@ -84,6 +81,7 @@ fn commands_after(known: u32, line: Line<'_>) -> u32
 }
 
 // Whether the journal ends at this place, and may end there.
+#[tactic(auto, using(crate::proofs::Outcomes::ends_from))]
 fn has_ended(text: &[u8], at: usize, key: Key) -> bool
     ensures { result ≡ (may_end key && is_end (rows_of (drop at text.now))) }
 {

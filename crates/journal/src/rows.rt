@@ -10,12 +10,7 @@ use super::keys::Key;
 pub(crate) fn row_length(bytes: &[u8]) -> Option<usize>
     ensures { MatchOption result (rows_of bytes.now ≡ rest_without_feed bytes.now) (λ n. FirstRow bytes.now n) }
 {
-    for (i, b) in bytes.iter().enumerate() {
-        if *b == b'\n' {
-            return Some(i);
-        }
-    }
-    None
+    bytes.iter().position(|b| *b == b'\n')
 }
 
 // What follows `front` in `text`, if it begins with it.
@@ -29,8 +24,6 @@ pub(crate) fn after<'a>(text: &'a [u8], front: &[u8]) -> Option<&'a [u8]>
 pub(crate) fn row_value<'a>(bytes: &'a [u8], key: Key) -> Option<&'a [u8]>
     ensures { MatchOption result (value_at key (rows_of bytes.now) ≡ None) (λ value. Stands key bytes.now value.now) }
 {
-    let Some(length) = row_length(bytes) else {
-        return None;
-    };
-    after(&bytes[0..length], key.front())
+    let length = row_length(bytes)?;
+    after(&bytes[..length], key.front())
 }

@@ -1,58 +1,44 @@
-// From the value of a line to what it says.
-ghost use Rattle.std.specs.Prelude.{◌≡◌, ◌^◌, ◌<◌, ◌≤◌, pos, neg_ℤ, IfSome, unsigned_abs};
+// From the value of a line to what it says. The limits of the counts, 1 to 64, 0 to 7 and 1 to 8, are numbers here as in the
+// form of a journal, each at its key: the hub has the same ones, but this crate does not stand on the hub's crates.
+ghost use Rattle.std.specs.Prelude.{◌≡◌, ◌^◌, ◌<◌, IfSome};
 ghost use Rattle.std.specs.Option.{option_map};
 ghost use Rattle.journal.specs.Lines.{entry_of, value_of, Limited, Sound};
+ghost use Rattle.registers.specs.Numbers.{number_of};
 ghost use Rattle.journal.specs.Values.{entry_written, if_accepted, kind_named, move_written, step_written, command_written};
 
 use super::keys::Key;
+use super::kinds::{Accepted, kind_named};
 use super::lines::{Line, Part};
 use super::numbers::{number_between, number_up_to};
-use super::registers::{Accepted, kind_named};
 use actions::Action;
+use registers::{Kind, Move};
 
-fn read_kind(text: &[u8], accepts: Accepted) -> Option<u8>
-    ensures { result ≡ if_accepted accepts (kind_named text.now) }
+// The kind that is named, if it is accepted.
+fn read_kind(text: &[u8], accepts: Accepted) -> Option<Kind>
+    ensures { option_map number_of result ≡ if_accepted accepts (kind_named text.now) }
 {
-    match kind_named(text) {
-        Some(kind) if accepts.includes(kind) => Some(kind),
-        _ => None,
-    }
+    kind_named(text).filter(|kind| accepts.includes(*kind))
 }
 
 // A move, in hundredths of a degree.
-fn read_move(text: &[u8]) -> Option<i32>
-    ensures says { result ≡ move_written text.now }
-    ensures limited { IfSome result (λ z. unsigned_abs z ≤ 9000) }
+fn read_move(text: &[u8]) -> Option<Move>
+    ensures { option_map (λ taken. taken.hundredths) result ≡ move_written text.now }
 {
-    match text {
-        [b'-', size @ ..] => negated(number_between(size, 1, 9000)),
-        _ => {
-            let number = number_up_to(text, 9000)?;
-            Some(number as i32)
-        }
-    }
+    let hundredths = match text {
+        [b'-', size @ ..] => -(number_between(size, 1, Move::LIMIT)? as i32),
+        _ => number_up_to(text, Move::LIMIT)? as i32,
+    };
+    Move::try_from(hundredths).ok()
 }
 
-fn negated(size: Option<u32>) -> Option<i32>
-    requires { IfSome size (λ n. n ≤ 9000) }
-    ensures says { result ≡ option_map (λ n. neg_ℤ (pos n)) size }
-    ensures limited { IfSome result (λ z. unsigned_abs z ≤ 9000) }
-{
-    match size {
-        Some(n) => Some(-(n as i32)),
-        None => None,
-    }
-}
-
+// The command of a step, 0 where the action is of none.
 fn read_command(action: Action, text: &[u8]) -> Option<u32>
     ensures { result ≡ command_written action text.now }
 {
     if action.is_of_command() {
         number_between(text, 1, 64)
-    } else if text.is_empty() {
-        Some(0)
     } else {
-        None
+        text.is_empty().then_some(0)
     }
 }
 
@@ -63,10 +49,11 @@ fn read_step<'a>(value: Part<'a>) -> Option<Line<'a>>
     ensures parts { IfSome result (λ l. (value_of l ≡ value.entry) × Sound l) }
     ensures limits { IfSome result Limited }
 {
+    // A step's letter and what is behind it are taken apart by one pattern: a rule of the project.
     let [letter, rest @ ..] = value.text else {
         return None;
     };
-    let action = Action::from_letter(char::from(*letter))?;
+    let action = Action::try_from(char::from(*letter)).ok()?;
     let command = read_command(action, rest)?;
     let number = Part {
         text: rest,
@@ -87,27 +74,27 @@ pub(crate) fn read_value<'a>(accepts: Accepted, key: Key, value: Part<'a>) -> Op
     ensures parts { IfSome result (λ l. (value_of l ≡ value.entry) × Sound l) }
     ensures limits { IfSome result Limited }
 {
-    match key {
-        Key::Commands => match number_between(value.text, 1, 64) {
-            Some(count) => Some(Line::Commands { value, count }),
-            None => None,
+    Some(match key {
+        Key::Commands => Line::Commands {
+            value,
+            count: number_between(value.text, 1, 64)?,
         },
-        Key::Kills => match number_up_to(value.text, 7) {
-            Some(count) => Some(Line::Kills { value, count }),
-            None => None,
+        Key::Kills => Line::Kills {
+            value,
+            count: number_up_to(value.text, 7)?,
         },
-        Key::Cards => match number_between(value.text, 1, 8) {
-            Some(count) => Some(Line::Cards { value, count }),
-            None => None,
+        Key::Cards => Line::Cards {
+            value,
+            count: number_between(value.text, 1, 8)?,
         },
-        Key::Register => match read_kind(value.text, accepts) {
-            Some(kind) => Some(Line::Register { value, kind }),
-            None => None,
+        Key::Register => Line::Register {
+            value,
+            kind: read_kind(value.text, accepts)?,
         },
-        Key::Move => match read_move(value.text) {
-            Some(hundredths) => Some(Line::Move { value, hundredths }),
-            None => None,
+        Key::Move => Line::Move {
+            value,
+            taken: read_move(value.text)?,
         },
-        Key::Step => read_step(value),
-    }
+        Key::Step => read_step(value)?,
+    })
 }

@@ -1,145 +1,50 @@
 // Expected lines and texts are worked out by hand from docs/journal.md and docs/refusals.md.
+use crate::refused::{LINES_NOT_DUE, STEPS_NOT_ALLOWED, VALUES_NOT_ALLOWED, is_fault_print};
+use actions::Action;
 use batch::{Shown, show};
+use journal::kinds::Accepted;
 use journal::lines::Line;
 use journal::place::Place;
 use journal::reader::Reader;
-use journal::registers::Accepted;
 use refusals::Refusal;
-use std::process::Abort;
+use registers::Kind;
 use std::test::Fail;
 
 // Whether the journal gets this fault print.
-fn gets(rt: &impl Abort, journal: &[u8], expected: &[u8]) -> Result<(), Fail> {
+fn gets(journal: &[u8], print: &[u8]) -> bool {
     let mut text = [0; 2048];
-    match show(journal, &mut text) {
-        Ok(Shown::Fault(length)) => {
-            assert_eq!(rt; length, expected.len());
-            assert!(rt; text.starts_with(expected));
-            Ok(())
-        }
-        _ => Err(Fail::new("the journal was accepted")),
+    let shown = show(journal, &mut text);
+    is_fault_print(shown, &text, print)
+}
+
+#[test]
+fn lines_that_are_not_due(rt: HostRuntime) {
+    for (journal, print) in LINES_NOT_DUE {
+        assert!(rt; gets(journal, print), "{journal:?}");
     }
 }
 
 #[test]
-fn lines_that_are_not_due(rt: HostRuntime) -> Result<(), Fail> {
-    gets(&rt, b"", b"fault=14\nline=1\n")?;
-    gets(&rt, b"\n", b"fault=14\nline=1\n")?;
-    gets(&rt, b"kills=0\n", b"fault=14\nline=1\n")?;
-    gets(&rt, b"commands 2\n", b"fault=14\nline=1\n")?;
-    gets(&rt, b"commands=2", b"fault=14\nline=1\n")?;
-    gets(&rt, b"commands=2\r\nkills=0", b"fault=15\nline=1\n")?;
-    gets(
-        &rt,
-        b"commands=2\nkills=0\ncards=1\nregister=sum\nmove=1\nstep=A1\n",
-        b"fault=14\nline=6\n",
-    )?;
-    gets(
-        &rt,
-        b"commands=1\nkills=0\ncards=1\nregister=sum\nmove=1\nstep=A1",
-        b"fault=14\nline=6\n",
-    )?;
-    gets(
-        &rt,
-        b"commands=1\nkills=0\ncards=1\nregister=sum\nmove=1\n\xff\n",
-        b"fault=14\nline=6\n",
-    )
+fn values_that_are_not_allowed(rt: HostRuntime) {
+    for (journal, print) in VALUES_NOT_ALLOWED {
+        assert!(rt; gets(journal, print), "{journal:?}");
+    }
 }
 
 #[test]
-fn values_that_are_not_allowed(rt: HostRuntime) -> Result<(), Fail> {
-    gets(&rt, b"commands=0\n", b"fault=15\nline=1\n")?;
-    gets(&rt, b"commands=65\n", b"fault=15\nline=1\n")?;
-    gets(&rt, b"commands=01\n", b"fault=15\nline=1\n")?;
-    gets(&rt, b"commands=\n", b"fault=15\nline=1\n")?;
-    gets(
-        &rt,
-        b"commands=99999999999999999999999999\n",
-        b"fault=15\nline=1\n",
-    )?;
-    gets(&rt, b"commands=1\nkills=8\n", b"fault=15\nline=2\n")?;
-    gets(
-        &rt,
-        b"commands=1\nkills=0\ncards=0\n",
-        b"fault=15\nline=3\n",
-    )?;
-    gets(
-        &rt,
-        b"commands=1\nkills=0\ncards=1\nregister=sums\n",
-        b"fault=15\nline=4\n",
-    )?;
-    gets(
-        &rt,
-        b"commands=1\nkills=0\ncards=1\nregister=sum\nmove=-0\n",
-        b"fault=15\nline=5\n",
-    )?;
-    gets(
-        &rt,
-        b"commands=1\nkills=0\ncards=1\nregister=sum\nmove=+1\n",
-        b"fault=15\nline=5\n",
-    )?;
-    gets(
-        &rt,
-        b"commands=1\nkills=0\ncards=1\nregister=sum\nmove=9001\n",
-        b"fault=15\nline=5\n",
-    )?;
-    gets(
-        &rt,
-        b"commands=1\nkills=0\ncards=1\nregister=sum\nmove=-9001\n",
-        b"fault=15\nline=5\n",
-    )?;
-    gets(
-        &rt,
-        b"commands=1\nkills=0\ncards=1\nregister=sum\nmove= 1\n",
-        b"fault=15\nline=5\n",
-    )
-}
-
-#[test]
-fn steps_that_are_not_allowed(rt: HostRuntime) -> Result<(), Fail> {
-    gets(
-        &rt,
-        b"commands=1\nkills=0\ncards=1\nregister=sum\nmove=1\nstep=S1\n",
-        b"fault=15\nline=6\n",
-    )?;
-    gets(
-        &rt,
-        b"commands=1\nkills=0\ncards=1\nregister=sum\nmove=1\nstep=a1\n",
-        b"fault=15\nline=6\n",
-    )?;
-    gets(
-        &rt,
-        b"commands=1\nkills=0\ncards=1\nregister=sum\nmove=1\nstep=\n",
-        b"fault=15\nline=6\n",
-    )?;
-    gets(
-        &rt,
-        b"commands=1\nkills=0\ncards=1\nregister=sum\nmove=1\nstep=A\n",
-        b"fault=15\nline=6\n",
-    )?;
-    gets(
-        &rt,
-        b"commands=1\nkills=0\ncards=1\nregister=sum\nmove=1\nstep=A0\n",
-        b"fault=15\nline=6\n",
-    )?;
-    gets(
-        &rt,
-        b"commands=1\nkills=0\ncards=1\nregister=sum\nmove=1\nstep=A65\n",
-        b"fault=15\nline=6\n",
-    )?;
-    gets(
-        &rt,
-        b"commands=1\nkills=0\ncards=1\nregister=sum\nmove=1\nstep=Q1\n",
-        b"fault=15\nline=6\n",
-    )
+fn steps_that_are_not_allowed(rt: HostRuntime) {
+    for (journal, print) in STEPS_NOT_ALLOWED {
+        assert!(rt; gets(journal, print), "{journal:?}");
+    }
 }
 
 #[test]
 fn a_journal_is_as_long_as_it_may_be(rt: HostRuntime) -> Result<(), Fail> {
     let mut journal = vec![in rt.alloc(); 10u8; 65536]?;
-    gets(&rt, &journal, b"fault=14\nline=1\n")?;
+    assert!(rt; gets(&journal, b"fault=14\nline=1\n"));
     journal.push(10)?;
-    gets(&rt, &journal, b"fault=13\nline=0\n")
+    assert!(rt; gets(&journal, b"fault=13\nline=0\n"));
+    Ok(())
 }
 
 // The largest and the smallest move, and a command above the number of commands, which the reader leaves to the hub.
@@ -150,40 +55,32 @@ fn totals_of_two_commands(rt: HostRuntime) {
     let expected =
         b"commands=2\nkills=7\ncards=8\nregister=peak\nfigures=9000\nmean=none\nA=1\nB=0\nC=0\nD=0\nE=0\nF=0\nG=0\nH=0\nI=0\nJ=0\nK=0\nL=0\nM=0\nN=0\nO=0\nP=0\nQ=2\nR=0\n";
     let mut text = [0; 2048];
-    assert!(rt;
-        matches!(show(journal, &mut text), Ok(Shown::Totals(length)) if length == expected.len())
-    );
+    assert_eq!(rt; show(journal, &mut text), Ok(Shown::Text(expected.len())));
     assert!(rt; text.starts_with(expected));
     let mut short = [7; 100];
-    assert!(rt;
-        matches!(show(journal, &mut short), Err(Refusal::BufferTooShort { needed }) if needed == expected.len())
+    let needed = expected.len();
+    assert_eq!(rt;
+        show(journal, &mut short),
+        Err(Refusal::BufferTooShort { needed })
     );
-    assert!(rt; short[0] == 7 && short[99] == 7);
-}
-
-fn is_second_line(place: Place) -> bool {
-    place.at == 12 && place.line == 2
+    assert_eq!(rt; short, [7; 100]);
 }
 
 #[test]
 fn lines_hold_their_values(rt: HostRuntime) -> Result<(), Fail> {
-    let mut reader = Reader::new(b"commands=12\nkills=x\n", Accepted::Only(1));
-    match reader.next_line() {
-        Ok(Some(Line::Commands { value, count })) => {
-            assert_eq!(rt; count, 12);
-            assert_eq!(rt; value.at, 9);
-            assert!(rt; value.text == b"12".as_slice());
-        }
-        _ => return Err(Fail::new("the first line tells the commands")),
-    }
-    assert!(rt; is_second_line(reader.place()));
-    assert!(rt;
-        matches!(
-            reader.next_line(),
-            Err(Refusal::ValueNotAllowed { line: 2 })
-        )
+    let mut reader = Reader::new(b"commands=12\nkills=x\n", Accepted::Only(Some(Kind::Sum)));
+    let Ok(Some(Line::Commands { value, count })) = reader.next_line() else {
+        return Err(Fail::new("the first line tells the commands"));
+    };
+    assert_eq!(rt; count, 12);
+    assert_eq!(rt; value.at, 9);
+    assert_eq!(rt; value.text, b"12".as_slice());
+    assert_eq!(rt; reader.place(), Place { at: 12, line: 2 });
+    assert_eq!(rt;
+        reader.next_line().err(),
+        Some(Refusal::ValueNotAllowed { line: 2 })
     );
-    assert!(rt; is_second_line(reader.place()));
+    assert_eq!(rt; reader.place(), Place { at: 12, line: 2 });
     Ok(())
 }
 
@@ -193,27 +90,28 @@ fn a_step_is_taken_apart(rt: HostRuntime) -> Result<(), Fail> {
         b"commands=1\nkills=0\ncards=1\nregister=sum\nmove=1\nstep=D1\nstep=O\n",
         Accepted::AnyNamed,
     );
+    // the header has five lines
     for _ in 0..5 {
         assert!(rt; matches!(reader.next_line(), Ok(Some(_))));
     }
-    match reader.next_line() {
-        Ok(
-            Some(
-                Line::Step {
-                    value,
-                    number,
-                    action,
-                    command,
-                },
-            ),
-        ) => {
-            assert!(rt; value.text == b"D1".as_slice() && number.text == b"1".as_slice());
-            assert_eq!(rt; number.at, value.at.saturating_add(1));
-            assert_eq!(rt; action.place(), 3);
-            assert_eq!(rt; command, 1);
-        }
-        _ => return Err(Fail::new("the sixth line is a step")),
-    }
+    let Ok(
+        Some(
+            Line::Step {
+                value,
+                number,
+                action,
+                command,
+            },
+        ),
+    ) = reader.next_line()
+    else {
+        return Err(Fail::new("the sixth line is a step"));
+    };
+    assert_eq!(rt; value.text, b"D1".as_slice());
+    assert_eq!(rt; number.text, b"1".as_slice());
+    assert_eq!(rt; number.at, value.at.saturating_add(1));
+    assert_eq!(rt; action, Action::BackupDoing);
+    assert_eq!(rt; command, 1);
     assert!(rt;
         matches!(
             reader.next_line(),
@@ -229,18 +127,19 @@ fn a_step_is_taken_apart(rt: HostRuntime) -> Result<(), Fail> {
     Ok(())
 }
 
-// A register that is not the caller's is refused; kind 0 accepts none.
+// A register that is not the caller's is refused; a caller whose register has no name accepts none.
 #[test]
 fn only_the_callers_register(rt: HostRuntime) {
-    for kind in 0..4 {
+    for kind in [None, Some(Kind::Sum), Some(Kind::Classes), Some(Kind::Peak)] {
         let mut reader = Reader::new(
             b"commands=1\nkills=0\ncards=1\nregister=classes\n",
             Accepted::Only(kind),
         );
+        // three lines come before the register
         for _ in 0..3 {
             assert!(rt; matches!(reader.next_line(), Ok(Some(_))));
         }
         let accepted = matches!(reader.next_line(), Ok(Some(_)));
-        assert_eq!(rt; accepted, kind == 2);
+        assert_eq!(rt; accepted, kind == Some(Kind::Classes));
     }
 }

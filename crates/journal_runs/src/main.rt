@@ -5,22 +5,16 @@
 #![tactic(auto)]
 
 use anyhow::anyhow;
-use showing::{Shown, show};
+use showing::show;
 use std::fs::File;
 use std::io::{BufRead, BufReader, Read, Write};
 use std::{env, fs};
 
+// As the programs that show one journal do it: of a `show` that comes as a parameter nothing would be known of the length.
 fn print_shown(rt: HostRuntime, journal: &[u8]) -> anyhow::Result<()> {
     let mut text = [0; 4096];
-    let length = match show(journal, &mut text) {
-        Ok(Shown::Report(length)) => length,
-        Ok(Shown::Fault(length)) => length,
-        Err(_) => return Err(anyhow!("the text does not fit its buffer")),
-    };
-    if length > text.len() {
-        return Err(anyhow!("the text is longer than its buffer"));
-    }
-    rt.stdout().write_all(&text[0..length])?;
+    let shown = show(journal, &mut text).map_err(|_| anyhow!("the text does not fit its buffer"))?;
+    rt.stdout().write_all(&text[..shown.length()])?;
     Ok(())
 }
 

@@ -1,17 +1,17 @@
-// A register that none of the named kinds is: it counts the moves, and answers 0 for its kind.
+// A register that none of the named kinds is: it counts the moves, and answers no kind.
 #![tactic(auto)]
 
-ghost use Rattle.std.specs.Prelude.{◌^◌, ◌<◌, [], ◌∷◌, pos};
+ghost use Rattle.std.specs.Prelude.{◌^◌, ◌<◌, [], ◌∷◌, pos, None};
 ghost use Rattle.move_count.specs.Count.{count_rule, count_start, IsMoveCount};
 ghost use Rattle.std.proofs.Common.{rules, arith};
 
-use registers::{Move, Register};
+use registers::{Kind, Move, Register};
 
 #[cfg(test)]
 mod tests;
 
 /// How many moves there were.
-#[derive(Clone, Copy)]
+#[derive(Clone, Copy, Debug, PartialEq, Eq)]
 pub struct MoveCount {
     moves: u32,
     ghost fits: { moves < 2 ^ 32 },
@@ -28,7 +28,7 @@ impl Register for MoveCount {
 
     ghost size = { 1 };
 
-    ghost code = { 0 };
+    ghost kind = { None };
 
     ghost own = { Prim.search rules };
 
@@ -59,14 +59,10 @@ impl Register for MoveCount {
     }
 
     fn figure(&self, place: usize) -> Option<i64> {
-        if place == 0 {
-            Some(i64::from(self.moves))
-        } else {
-            None
-        }
+        (place == 0).then_some(i64::from(self.moves))
     }
 
-    fn kind() -> u8 {
-        0
+    fn kind() -> Option<Kind> {
+        None
     }
 }

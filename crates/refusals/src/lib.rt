@@ -6,7 +6,7 @@ ghost use Rattle.std.specs.Prelude.{◌≡◌};
 ghost use Rattle.refusals.specs.Refusals.{number_of, line_of};
 
 // The cases stand in the order in which calls test for them.
-#[derive(Clone, Copy)]
+#[derive(Clone, Copy, Debug, PartialEq, Eq)]
 pub enum Refusal {
     // making a hub
     CountOutsideLimits,
@@ -32,7 +32,7 @@ pub enum Refusal {
 }
 
 impl Refusal {
-    // The number under which a cause is known to users.
+    // The number under which a cause is known to users. A match, since `as` numbers only an enum whose cases hold nothing.
     pub fn number(self) -> u32
         ensures { result ≡ number_of self }
     {
@@ -57,14 +57,14 @@ impl Refusal {
         }
     }
 
-    // The journal line that a refusal speaks of, or 0 where it speaks of none.
+    // The journal line that a refusal speaks of, or 0 where it speaks of none: no Option, since a fault print says `line=0`.
     pub fn line(self) -> u32
         ensures { result ≡ line_of self }
     {
         match self {
-            Refusal::LineNotDue { line } => line,
-            Refusal::ValueNotAllowed { line } => line,
-            Refusal::StepDenied { line } => line,
+            Refusal::LineNotDue { line }
+            | Refusal::ValueNotAllowed { line }
+            | Refusal::StepDenied { line } => line,
             _ => 0,
         }
     }

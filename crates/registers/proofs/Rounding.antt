@@ -1,5 +1,5 @@
 -- The mean that is computed is a mean, and every mean is that one.
-use Rattle.std.proofs.Common.{◌≡◌, ℕ, zero, suc, ◌*◌, ◌<◌, Bool, ℤ, pos, negsuc, ◌*ℤ◌, neg_ℤ, nat_abs, Some, None, Decides, Option, sym, refl, ap, ◌∙◌, subst, ⊎_elim, suc-mul, zero-mul, arith}
+use Rattle.std.proofs.Common.{◌≡◌, ℕ, zero, suc, ◌<◌, Bool, ℤ, pos, negsuc, nat_abs, Some, None, Decides, Option, sym, refl, ap, ◌∙◌, subst, ⊎_elim, suc-mul, arith}
 use Rattle.std.proofs.lemmas.Int.{ints}
 use Rattle.std.proofs.lemmas.Bool.{both_ways, cases_lt}
 use Rattle.std.proofs.lemmas.Bool.Decides.{Decides-int_eq, nat_tests}
@@ -12,14 +12,10 @@ size_with_sign : (s : ℤ) (n : ℕ) → nat_abs (with_sign s n) ≡ n
 size_with_sign (pos a) n = refl
 size_with_sign (negsuc a) n = omega (arith, ints)
 
-minus_times : (p v : ℕ) → neg_ℤ (pos p) *ℤ pos v ≡ neg_ℤ (pos (p * v))
-minus_times zero v = simp zero-mul
-minus_times (suc p) v = refl
-
 -- the distance of a number with the sum's sign is that of the sizes
 off_sizes : (s : ℤ) (p v : ℕ) → off s v (with_sign s p) ≡ off_size (nat_abs s) v p
 off_sizes (pos a) p v = refl
-off_sizes (negsuc a) p v = let e = minus_times p v in omega (arith, ints, e)
+off_sizes (negsuc a) p v = grind (arith, ints)
 
 -- a nearest number has the sum's sign, or is 0
 nearest_sign : (s : ℤ) (v : ℕ) (r : ℤ) → 0 < v → Nearest s v r → r ≡ with_sign s (nat_abs r)

@@ -2,6 +2,7 @@ pub mod Limits
 pub mod Taken
 pub mod OfMove
 pub mod Kind
+pub mod Numbers
 pub mod Sum
 pub mod Classes
 pub mod Peak

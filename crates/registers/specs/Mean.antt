@@ -1,5 +1,5 @@
 -- The mean move: the sum of the moves over the version, the number of moves, as a whole number.
-use Rattle.std.specs.Prelude.{◌≡◌, ℕ, ◌+◌, ◌*◌, ◌/◌, ◌%◌, ◌<◌, ◌≤◌, cond, ℤ, pos, negsuc, ◌-ℤ◌, ◌*ℤ◌, neg_ℤ, Some, None, Option, ◌==◌, nat_lt, unsigned_abs}
+use Rattle.std.specs.Prelude.{◌≡◌, ℕ, ◌+◌, ◌*◌, ◌/◌, ◌%◌, ◌<◌, ◌≤◌, cond, ℤ, pos, negsuc, ◌-ℤ◌, ◌*ℤ◌, neg_ℤ, Some, None, Option, ◌==◌, nat_lt, unsigned_abs, List, [], ◌∷◌}
 
 -- How far r is from the quotient, times twice the version, so that all is in whole numbers.
 abbrev pub off : ℤ → ℕ → ℤ → ℕ
@@ -41,6 +41,15 @@ with_sign (negsuc a) n = neg_ℤ (pos n)
 -- The mean, for what is built on it, as a text that shows it.
 unfoldable pub mean_of_sum : ℤ → ℕ → Option ℤ
 mean_of_sum sum version = cond (version == 0) None (Some (with_sign sum (rounded (unsigned_abs sum) version)))
+
+-- The mean where the sum is the first of a register's figures: none where there is no figure.
+abbrev pub mean_of_first : List ℤ → ℕ → Option ℤ
+mean_of_first [] version = None
+mean_of_first (sum ∷ rest) version = mean_of_sum sum version
+
+-- Only a sum, the kind with the number 1, has a mean: that of its first figure.
+abbrev pub mean_of : ℕ → List ℤ → ℕ → Option ℤ
+mean_of code figures version = cond (code == 1) (mean_of_first figures version) None
 
 -- What is computed is a mean.
 abbrev pub ComputesMean : Type 0

@@ -1,5 +1,5 @@
 // The register that counts the moves by their size.
-ghost use Rattle.std.specs.Prelude.{◌≡◌, ℕ, ◌^◌, ◌<◌, map, length, pos, slice_index, slice_index_or};
+ghost use Rattle.std.specs.Prelude.{◌≡◌, ℕ, ◌^◌, ◌<◌, map, length, pos, slice_index, slice_index_or, Some};
 ghost use Rattle.std.proofs.Common.{◌∙◌, length-set, arith, rules};
 ghost use Rattle.std.proofs.lemmas.List.{length-map};
 ghost use Rattle.registers.specs.Classes.{class_of, classes_rule, classes_start, IsClasses, IsCount};
@@ -7,7 +7,9 @@ ghost use Rattle.std.proofs.ByRecursion.{All-map, All-from_get_or, All-get_or, A
 ghost use Rattle.registers.specs.Limits.{size_of};
 ghost use Rattle.registers.specs.Counts.{class_below, count_fits, one_more_counts, counted_either_order};
 ghost use Rattle.registers.specs.Kind.{Fits64};
+ghost use Rattle.registers.specs.declared.kind.Kind.TheVariants.{Classes as ClassesKind};
 
+use super::kind::Kind;
 use super::moves::Move;
 use super::register::Register;
 
@@ -15,7 +17,7 @@ use super::register::Register;
 const CLASSES: usize = 8;
 
 /// How many moves there were in each class of sizes.
-#[derive(Clone, Copy)]
+#[derive(Clone, Copy, Debug, PartialEq, Eq)]
 pub struct Classes {
     counts: [u32; CLASSES],
     ghost eight: { length counts ≡ 8 },
@@ -49,7 +51,7 @@ impl Register for Classes {
 
     ghost size = { 8 };
 
-    ghost code = { 2 };
+    ghost kind = { Some ClassesKind };
 
     ghost own = { λ x. (length-map x.counts pos ∙ x.eight, All-map IsCount pos x.counts (All-from_get_or (λ n. n < 2 ^ 32) x.counts 0 x.fit)) };
 
@@ -77,6 +79,7 @@ impl Register for Classes {
         }
     }
 
+    #[tactic(auto, using(crate::specs::Counts::counted_map, crate::specs::Counts::class_below))]
     fn take(&mut self, m: Move) {
         let class = class_of(m.hundredths().unsigned_abs());
         self.counts[class] = self.counts[class].saturating_add(1);
@@ -87,14 +90,10 @@ impl Register for Classes {
     }
 
     fn figure(&self, place: usize) -> Option<i64> {
-        if place < CLASSES {
-            Some(i64::from(self.counts[place]))
-        } else {
-            None
-        }
+        self.counts.get(place).map(|count| i64::from(*count))
     }
 
-    fn kind() -> u8 {
-        2
+    fn kind() -> Option<Kind> {
+        Some(Kind::Classes)
     }
 }

@@ -3,6 +3,7 @@
 
 mod classes;
 mod examples;
+mod kind;
 mod means;
 mod moves;
 mod peak;
@@ -13,8 +14,9 @@ mod tests;
 
 pub use classes::Classes;
 pub use examples::worked_examples_hold;
-pub use means::{is_mean, mean};
-pub use moves::Move;
+pub use kind::Kind;
+pub use means::{is_mean, mean, mean_of};
+pub use moves::{Move, OutsideLimits};
 pub use peak::Peak;
 pub use register::Register;
 pub use sum::Sum;

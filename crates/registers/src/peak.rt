@@ -1,13 +1,15 @@
 // The register that keeps the largest size of a move.
-ghost use Rattle.std.specs.Prelude.{◌≤◌, [], ◌∷◌, pos};
+ghost use Rattle.std.specs.Prelude.{◌≤◌, [], ◌∷◌, pos, Some};
 ghost use Rattle.registers.specs.Peak.{IsPeak, peak_rule, peak_start};
+ghost use Rattle.registers.specs.declared.kind.Kind.TheVariants.{Peak as PeakKind};
 ghost use Rattle.std.proofs.Common.{rules, arith};
 
+use super::kind::Kind;
 use super::moves::Move;
 use super::register::Register;
 
 /// The largest size of a move so far, in hundredths of a degree.
-#[derive(Clone, Copy)]
+#[derive(Clone, Copy, Debug, PartialEq, Eq)]
 pub struct Peak {
     largest: u32,
     ghost limited: { largest ≤ 9000 },
@@ -24,7 +26,7 @@ impl Register for Peak {
 
     ghost size = { 1 };
 
-    ghost code = { 3 };
+    ghost kind = { Some PeakKind };
 
     ghost own = { Prim.search rules };
 
@@ -48,9 +50,7 @@ impl Register for Peak {
 
     fn take(&mut self, m: Move) {
         let size = m.hundredths().unsigned_abs();
-        if self.largest < size {
-            self.largest = size;
-        }
+        self.largest = self.largest.max(size);
     }
 
     fn count(&self) -> usize {
@@ -58,14 +58,10 @@ impl Register for Peak {
     }
 
     fn figure(&self, place: usize) -> Option<i64> {
-        if place == 0 {
-            Some(i64::from(self.largest))
-        } else {
-            None
-        }
+        (place == 0).then_some(i64::from(self.largest))
     }
 
-    fn kind() -> u8 {
-        3
+    fn kind() -> Option<Kind> {
+        Some(Kind::Peak)
     }
 }

@@ -1,11 +1,14 @@
 // What every register offers, whatever its kind.
-ghost use Rattle.std.specs.Prelude.{◌≡◌, ℕ, ◌≤◌, List, length, ℤ};
+ghost use Rattle.std.specs.Prelude.{◌≡◌, ℕ, ◌≤◌, List, length, ℤ, Option};
 ghost use Rattle.std.specs.List.{slice_get, AllByRecursion};
 ghost use Rattle.registers.specs.Kind.{Fits64, Rule};
 ghost use Rattle.registers.specs.Named.{Named};
+ghost use Rattle.registers.specs.Numbers.{code_of};
 ghost use Rattle.registers.specs.OfMove.{taken_of};
+ghost use Rattle.registers.specs.declared.kind.Kind.{Kind};
 ghost use Rattle.registers.specs.Taken.{Taken, InRange};
 
+use super::kind::Kind;
 use super::moves::Move;
 
 /// A register of moves. Its value is its figures; a copy of a register is a plain assignment.
@@ -25,8 +28,8 @@ pub trait Register: Copy {
     /// How many figures a register of this kind has.
     ghost size: { ℕ };
 
-    /// The number of the kind among the named kinds, or 0.
-    ghost code: { ℕ };
+    /// The kind among the named kinds, if it is one of them.
+    ghost kind: { Option Kind };
 
     /// A register that has taken no move.
     fn empty() -> Self
@@ -44,9 +47,9 @@ pub trait Register: Copy {
     fn figure(&self, place: usize) -> Option<i64>
         ensures { result ≡ slice_get (figures self.now) place };
 
-    /// The number of the kind.
-    fn kind() -> u8
-        ensures { result ≡ code };
+    /// The kind, if it has a name.
+    fn kind() -> Option<Kind>
+        ensures { result ≡ kind };
 
     // What a register holds are figures of its kind.
     ghost own: { (x : Self) → ours (figures x) };
@@ -69,6 +72,6 @@ pub trait Register: Copy {
     // Two moves in either order lead to the same figures.
     ghost commutes: { (f : List ℤ) (s t : Taken) → ours f → InRange s → InRange t → rule (rule f s) t ≡ rule (rule f t) s };
 
-    // The number that the kind answers is that of a named kind only if it is that kind.
-    ghost named: { Named code start rule ours size };
+    // A register answers the kind of a named kind only if it is of that kind.
+    ghost named: { Named (code_of kind) start rule ours size };
 }

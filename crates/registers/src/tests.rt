@@ -13,42 +13,50 @@ fn take_both<R: Register>(register: &mut R, first: Move, second: Move)
 }
 
 // The figure at a place of a register that took the moves of these two numbers.
-fn figure_after<R: Register>(first: i32, second: i32, place: usize) -> Option<i64> {
+fn figure_after<R: Register>(
+    first: i32,
+    second: i32,
+    place: usize,
+) -> Result<Option<i64>, OutsideLimits> {
     let mut register = R::empty();
-    take_both(&mut register, Move::new(first)?, Move::new(second)?);
-    register.figure(place)
+    take_both(
+        &mut register,
+        Move::try_from(first)?,
+        Move::try_from(second)?,
+    );
+    Ok(register.figure(place))
 }
 
 #[test]
 fn a_sum_adds_the_moves(rt: HostRuntime) {
-    assert_eq!(rt; <Sum as Register>::kind(), 1);
-    assert_eq!(rt; figure_after::<Sum>(120, -30, 0), Some(90));
-    assert_eq!(rt; figure_after::<Sum>(-9000, 7, 0), Some(-8993));
+    assert_eq!(rt; <Sum as Register>::kind(), Some(Kind::Sum));
+    assert_eq!(rt; figure_after::<Sum>(120, -30, 0), Ok(Some(90)));
+    assert_eq!(rt; figure_after::<Sum>(-9000, 7, 0), Ok(Some(-8993)));
 }
 
 #[test]
 fn classes_count_by_size(rt: HostRuntime) {
-    assert_eq!(rt; <Classes as Register>::kind(), 2);
-    assert_eq!(rt; figure_after::<Classes>(49, -50, 0), Some(1));
-    assert_eq!(rt; figure_after::<Classes>(49, -50, 1), Some(1));
-    assert_eq!(rt; figure_after::<Classes>(-9000, 5000, 7), Some(2));
-    assert_eq!(rt; figure_after::<Classes>(-9000, 5000, 6), Some(0));
+    assert_eq!(rt; <Classes as Register>::kind(), Some(Kind::Classes));
+    assert_eq!(rt; figure_after::<Classes>(49, -50, 0), Ok(Some(1)));
+    assert_eq!(rt; figure_after::<Classes>(49, -50, 1), Ok(Some(1)));
+    assert_eq!(rt; figure_after::<Classes>(-9000, 5000, 7), Ok(Some(2)));
+    assert_eq!(rt; figure_after::<Classes>(-9000, 5000, 6), Ok(Some(0)));
 }
 
 #[test]
 fn a_peak_keeps_the_largest_size(rt: HostRuntime) {
-    assert_eq!(rt; <Peak as Register>::kind(), 3);
-    assert_eq!(rt; figure_after::<Peak>(-300, 120, 0), Some(300));
-    assert_eq!(rt; figure_after::<Peak>(10, 0, 0), Some(10));
-    assert_eq!(rt; figure_after::<Peak>(10, 0, 1), None);
+    assert_eq!(rt; <Peak as Register>::kind(), Some(Kind::Peak));
+    assert_eq!(rt; figure_after::<Peak>(-300, 120, 0), Ok(Some(300)));
+    assert_eq!(rt; figure_after::<Peak>(10, 0, 0), Ok(Some(10)));
+    assert_eq!(rt; figure_after::<Peak>(10, 0, 1), Ok(None));
 }
 
 #[test]
 fn a_move_keeps_to_the_limits(rt: HostRuntime) {
-    assert!(rt; Move::new(9000).is_some());
-    assert!(rt; Move::new(-9000).is_some());
-    assert!(rt; Move::new(9001).is_none());
-    assert!(rt; Move::new(-9001).is_none());
+    assert!(rt; Move::try_from(9000).is_ok());
+    assert!(rt; Move::try_from(-9000).is_ok());
+    assert!(rt; Move::try_from(9001).is_err());
+    assert!(rt; Move::try_from(-9001).is_err());
 }
 
 #[test]
@@ -60,4 +68,19 @@ fn a_half_goes_away_from_zero(rt: HostRuntime) {
     assert_eq!(rt; mean(5, 0), None);
     assert!(rt; is_mean(8, 3, 3));
     assert!(rt; !is_mean(8, 3, 2));
+}
+
+#[test]
+fn a_kind_has_its_number_and_its_name(rt: HostRuntime) {
+    assert_eq!(rt; Kind::Sum.number(), 1);
+    assert_eq!(rt; Kind::Classes.number(), 2);
+    assert_eq!(rt; Kind::Peak.number(), 3);
+    assert_eq!(rt; Kind::Classes.name(), b"classes".as_slice());
+}
+
+#[test]
+fn the_mean_is_that_of_the_first_figure(rt: HostRuntime) {
+    assert_eq!(rt; mean_of(Some(Kind::Sum), &Sum::empty(), 2), Some(0));
+    assert_eq!(rt; mean_of(Some(Kind::Sum), &Sum::empty(), 0), None);
+    assert_eq!(rt; mean_of(Some(Kind::Peak), &Peak::empty(), 2), None);
 }

@@ -4,14 +4,14 @@ use Rattle.std.proofs.lemmas.Bool.{cases_Bool, cond-false, cond-true}
 use Rattle.refusals.specs.declared.Refusal.{Refusal}
 use Rattle.refusals.specs.declared.Refusal.TheVariants.{JournalTooLong}
 use Rattle.registers.specs.Kind.{Rule}
+use Rattle.journal.specs.Keys.{due_key}
 use Rattle.journal.specs.Lines.{entry_of, value_of}
-use Rattle.journal.specs.Outcomes.{Moves, Outcome, Passed, accepted, finished, next_outcome, next_result, outcome_at, refused}
+use Rattle.journal.specs.Outcomes.{Moves, Outcome, Passed, accepted, commands_after, finished, next_outcome, next_result, outcome_at, refused}
 use Rattle.journal.specs.Rows.{Rows, end, cut, row, rows_of}
 use Rattle.journal.specs.Values.{Entry}
-use Rattle.journal.specs.declared.keys.Key.{Key}
 use Rattle.journal.specs.declared.lines.Line.{Line}
 use Rattle.journal.specs.declared.place.Place.{Place}
-use Rattle.journal.specs.declared.registers.Accepted.{Accepted}
+use Rattle.journal.specs.declared.kinds.Accepted.{Accepted}
 use Rattle.journal.proofs.Outcomes.{passed_rows}
 use Rattle.replay.specs.Replaying.{Replay, after_noted, after_outcome, ended, replay_from, replay_rest, stopped}
 use Rattle.replay.specs.Told.{Told, noted}
@@ -77,21 +77,34 @@ module _ (accepts : Accepted) (start : List ℤ) (rule : Rule) (text : List ℕ)
       same_onward (Ok more) f g each = each more
       same_onward (Err refusal) f g each = refl
 
--- The outcome in the words of what was told so far.
-pub in_other_words : {accepts accepts' : Accepted} {known : ℕ} {text text' : List ℕ} (place : Place) (t : Told) {o : Outcome} → text' ≡ text → accepts' ≡ accepts → known ≡ t.commands → o ≡ outcome_at accepts' known place text' → outcome_at accepts t.commands place text ≡ o
-in_other_words place t e a k o = cc
+-- The reader hands out a line: the number of commands that it knows goes by the line, and the replay by what the line is noted as.
+pub record Passes (accepts : Accepted) (start : List ℤ) (rule : Rule) (text : List ℕ) (before after : Place) (t : Told) (known : ℕ) (line : Line) : Type 0 where
+  pub knows : known ≡ commands_after t.commands (entry_of line)
+  pub goes_on : replay_rest accepts start rule text before t ≡ after_noted t (noted start rule before.line t (entry_of line)) (λ more. replay_rest accepts start rule text after more)
 
--- What a reader tells of the line that it hands out, and at the end.
-pub of_line : (text : List ℕ) (before after : Place) (known known' : ℕ) (o : Outcome) (answer : Option Line) (line : Line) → answer ≡ Some line → next_result (Ok answer) ≡ o → Moves (Ok answer) text before after known known' → (accepted (entry_of line) ≡ o) × Moves (Ok (Some line)) text before after known known'
-of_line text before after known known' o answer line e says moves =
-    (sym (ap (λ a. next_result (Ok a)) e) ∙ says, subst (λ a. Moves (Ok a) text before after known known') e moves)
+-- The replay goes on by what the line is noted as.
+pub noted_as : {accepts : Accepted} {start : List ℤ} {rule : Rule} {text : List ℕ} {before after : Place} {t : Told} {known : ℕ} {line : Line} → Passes accepts start rule text before after t known line → (r : Result Told Refusal) → noted start rule before.line t (entry_of line) ≡ r
+    → replay_rest accepts start rule text before t ≡ after_noted t r (λ more. replay_rest accepts start rule text after more)
+noted_as {accepts} {start} {rule} {text} {before} {after} {t} passes r e = passes.goes_on ∙ ap (λ (x : Result Told Refusal). after_noted t x (λ more. replay_rest accepts start rule text after more)) e
 
-pub of_end : (o : Outcome) (answer : Option Line) → answer ≡ None → next_result (Ok answer) ≡ o → finished ≡ o
-of_end o answer e says = sym (ap (λ a. next_result (Ok a)) e) ∙ says
+-- What becomes of the replay by what the reader answers at a place.
+abbrev pub Becomes : Accepted → List ℤ → Rule → List ℕ → (before after : Place) → Told → ℕ → Result (Option Line) Refusal → Type 0
+Becomes accepts start rule text before after t known (Ok None) = replay_rest accepts start rule text before t ≡ ended before.line t
+Becomes accepts start rule text before after t known (Ok (Some line)) = Passes accepts start rule text before after t known line
+Becomes accepts start rule text before after t known (Err refusal) = replay_rest accepts start rule text before t ≡ stopped t refusal
 
--- The line that was handed out is noted, and the replay goes on by that.
-pub go_on : (accepts accepts' : Accepted) (start : List ℤ) (rule : Rule) (text text' : List ℕ) (known : ℕ) (before after : Place) (t : Told) (key : Key) (line : Line) → text' ≡ text → accepts' ≡ accepts → known ≡ t.commands → accepted (entry_of line) ≡ outcome_at accepts' known before text' → Passed text' key before after (value_of line)
-    → replay_rest accepts start rule text before t ≡ after_noted t (noted start rule before.line t (entry_of line)) (λ more. replay_rest accepts start rule text after more)
-go_on accepts accepts' start rule text text' known before after t key line e a k says passed =
-    let rows = passed_rows (subst (λ bytes. Passed bytes key before after (value_of line)) e passed) in
-    when_accepted accepts start rule text before t (entry_of line) _ after (in_other_words before t e a k says) rows passed.counted
+-- The reader still has the text of the replay, accepts what it began with, and knows the number of commands that was told.
+pub reader_says : {accepts accepts' : Accepted} {text text' : List ℕ} {known : ℕ} (start : List ℤ) (rule : Rule) (before after : Place) (t : Told) (known' : ℕ) (r answer : Result (Option Line) Refusal)
+    → text' ≡ text → accepts' ≡ accepts → known ≡ t.commands → next_result r ≡ outcome_at accepts' known before text' → Moves r text' before after known known' → r ≡ answer
+    → Becomes accepts start rule text before after t known' answer
+reader_says {accepts} {accepts'} {text} {text'} {known} start rule before after t known' r answer x a k says moves is = subst (Becomes accepts start rule text before after t known') is (by_result r says moves)
+  where
+    by_result : (r : Result (Option Line) Refusal) → next_result r ≡ outcome_at accepts' known before text' → Moves r text' before after known known' → Becomes accepts start rule text before after t known' r
+    by_result (Ok None) says moves = when_finished accepts start rule text before t cc
+    by_result (Ok (Some line)) says (passed, sound, knows) =
+        let rows = passed_rows (subst (λ bytes. Passed bytes (due_key before.line known) before after (value_of line)) x passed) in
+        record {
+          knows = knows ∙ ap (λ n. commands_after n (entry_of line)) k;
+          goes_on = when_accepted accepts start rule text before t (entry_of line) _ after (cc) rows passed.counted;
+        }
+    by_result (Err refusal) says moves = when_refused accepts start rule text before t refusal cc

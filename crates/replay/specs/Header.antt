@@ -1,11 +1,11 @@
 -- What is kept of a journal's header while it is read.
-use Rattle.std.specs.Prelude.{◌≡◌, ℕ, ◌≤◌, true, false, List, [], length, take, ℤ, Ok, Err, Result}
+use Rattle.std.specs.Prelude.{◌≡◌, ℕ, ◌≤◌, true, false, List, [], length, ℤ, Ok, Err, Result}
 use Rattle.std.specs.List.{AllByRecursion}
 use Rattle.refusals.specs.declared.Refusal.{Refusal}
 use Rattle.registers.specs.Kind.{Rule}
 use Rattle.registers.specs.Taken.{InRange}
 use Rattle.journal.specs.declared.place.Place.{Place}
-use Rattle.journal.specs.declared.registers.Accepted.{Accepted}
+use Rattle.journal.specs.declared.kinds.Accepted.{Accepted}
 use Rattle.replay.specs.Replaying.{replay_of, replay_rest, stopped}
 use Rattle.replay.specs.Told.{Told, is_made}
 use Rattle.replay.specs.declared.header.Header.{Header}
@@ -13,12 +13,11 @@ use Rattle.replay.specs.declared.header.Header.{Header}
 -- The record holds what was told. Counts and moves are within the limits that the journal's form sets them, and no step was
 -- told yet.
 pub record Heads (h : Header) (t : Told) : Type 0 where
-  pub commands : h.commands ≡ t.commands
-  pub kills : h.kills ≡ t.kills
-  pub cards : h.cards ≡ t.cards
-  pub moved : h.moved ≡ length t.moves
-  pub moves : take h.moved h.moves ≡ t.moves
-  pub room : h.moved ≤ 64
+  pub commands : h.counts.commands ≡ t.commands
+  pub kills : h.counts.kills ≡ t.kills
+  pub cards : h.counts.cards ≡ t.cards
+  pub moves : h.moves.items ≡ t.moves
+  pub room : length t.moves ≤ 64
   pub few_commands : t.commands ≤ 64
   pub few_kills : t.kills ≤ 7
   pub some_cards : 1 ≤ t.cards

@@ -3,10 +3,11 @@ use Rattle.std.specs.Prelude.{◌≡◌, ℕ, Bool, true, false, List, length, t
 use Rattle.refusals.specs.declared.Refusal.{Refusal}
 use Rattle.refusals.specs.declared.Refusal.TheVariants.{WrongTableLength}
 use Rattle.registers.specs.Kind.{Rule}
+use Rattle.registers.specs.declared.kind.Kind.{Kind}
 use Rattle.hub_records.specs.declared.hub.Hub.{Hub}
 use Rattle.hub_tables.specs.Fit.{lengths_fit}
 use Rattle.hub_runs.specs.States.{Lent, lent}
-use Rattle.journal.specs.declared.registers.Accepted.TheVariants.{Only}
+use Rattle.journal.specs.declared.kinds.Accepted.TheVariants.{Only}
 use Rattle.replay.specs.Replaying.{Replay, replay_of}
 use Rattle.replay.specs.Standing.{Stands}
 use Rattle.replay.specs.Told.{Told, is_made}
@@ -44,6 +45,6 @@ module _ {R : Type 0} (figures : R → List ℤ) (start : List ℤ) (rule : Rule
   ByTables false p before r after = (r ≡ Err WrongTableLength) × (after ≡ before)
   ByTables true p before r after = Leaves (is_made p.told) p before r after
 
-  -- `code` is the number of the register's kind: only a journal that names it is accepted.
-  abbrev pub Replays : ℕ → List ℕ → Lent R → Result Hub Refusal → Lent R → Type 0
-  Replays code text before r after = ByTables (are_full before) (replay_of (Only code) start rule text) before r after
+  -- Only a journal that names the register's kind is accepted.
+  abbrev pub Replays : Option Kind → List ℕ → Lent R → Result Hub Refusal → Lent R → Type 0
+  Replays kind text before r after = ByTables (are_full before) (replay_of (Only kind) start rule text) before r after

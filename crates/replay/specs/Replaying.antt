@@ -6,7 +6,7 @@ use Rattle.registers.specs.Kind.{Rule}
 use Rattle.journal.specs.Outcomes.{Outcome, accepted, finished, refused, next_outcome}
 use Rattle.journal.specs.Rows.{Rows, end, cut, row, rows_of}
 use Rattle.journal.specs.declared.place.Place.{Place}
-use Rattle.journal.specs.declared.registers.Accepted.{Accepted}
+use Rattle.journal.specs.declared.kinds.Accepted.{Accepted}
 use Rattle.replay.specs.Told.{Told, is_made, nothing_told, noted}
 
 -- What was told until the replay stopped, and why it stopped; no reason where the journal has come to its end.

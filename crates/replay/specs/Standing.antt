@@ -6,7 +6,7 @@ use Rattle.hub_records.specs.declared.hub.Hub.{Hub}
 use Rattle.hub_runs.specs.GoingOn.{AfterCalls}
 use Rattle.hub_runs.specs.States.{Lent, size_of, state_in}
 use Rattle.journal.specs.declared.place.Place.{Place}
-use Rattle.journal.specs.declared.registers.Accepted.{Accepted}
+use Rattle.journal.specs.declared.kinds.Accepted.{Accepted}
 use Rattle.replay.specs.Replaying.{replay_rest, stopped}
 use Rattle.replay.specs.Told.{Told, is_made, size_told}
 

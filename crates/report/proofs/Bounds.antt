@@ -1,5 +1,5 @@
 -- How long a line can be.
-use Rattle.std.proofs.Common.{◌≡◌, ℕ, ◌+◌, ◌*◌, ◌^◌, ◌<◌, ◌≤◌, List, [], ◌∷◌, ◌++◌, length, ℤ, decimal, arith, lit<}
+use Rattle.std.proofs.Common.{◌≡◌, ℕ, ◌+◌, ◌*◌, ◌^◌, ◌<◌, ◌≤◌, List, [], ◌∷◌, ◌++◌, length, ℤ, IfSome, Some, None, decimal, Option, arith, lit<}
 use lib.Signed.{mag}
 use Rattle.std.proofs.lemmas.Fmt.{length-decimal-le, length_signed_le}
 use Rattle.std.proofs.lemmas.List.{length-append}
@@ -7,9 +7,9 @@ use Rattle.std.specs.List.{flat_map, AllByRecursion}
 use Rattle.std.specs.Fmt.{signed_decimal}
 use Rattle.registers.specs.Kind.{Fits64}
 use Rattle.report.specs.Figures.{figure_after_comma, figures_text}
-use Rattle.report.specs.Lines.{line_text}
+use Rattle.report.specs.Lines.{line_text, mean_text}
 
-pub length_line : (key value : List ℕ) → length (line_text key value) ≡ length key + length value + 2
+length_line : (key value : List ℕ) → length (line_text key value) ≡ length key + length value + 2
 length_line key value =
     let outer : length (line_text key value) ≡ length (key ++ (61 ∷ value)) + 1 = length-append (key ++ (61 ∷ value)) (10 ∷ []) in
     let inner : length (key ++ (61 ∷ value)) ≡ length key + length (61 ∷ value) = length-append key (61 ∷ value) in
@@ -23,16 +23,15 @@ length_number n h = let small : n < 10 ^ 20 = omega arith in length-decimal-le 2
 pub length_signed : (z : ℤ) → mag z < 2 ^ 63 → length (signed_decimal z) ≤ 20
 length_signed z h = let small : mag z + 1 < 10 ^ 19 = omega arith in length_signed_le 19 z small h
 
+-- Nor has the value of the line of a mean.
+pub length_mean : (mean : Option ℤ) → IfSome mean (λ z. mag z < 2 ^ 63) → length (mean_text mean) ≤ 20
+length_mean None h = omega arith
+length_mean (Some z) h = length_signed z h
+
 pub length_count_line : (key : List ℕ) (n : ℕ) → n < 2 ^ 64 → length (line_text key (decimal n)) ≤ length key + 22
 length_count_line key n h =
     let digits : length (decimal n) ≤ 20 = length_number n h in
     let whole : length (line_text key (decimal n)) ≡ length key + length (decimal n) + 2 = length_line key (decimal n) in
-    omega arith
-
-pub length_signed_line : (key : List ℕ) (z : ℤ) → mag z < 2 ^ 63 → length (line_text key (signed_decimal z)) ≤ length key + 22
-length_signed_line key z h =
-    let digits : length (signed_decimal z) ≤ 20 = length_signed z h in
-    let whole : length (line_text key (signed_decimal z)) ≡ length key + length (signed_decimal z) + 2 = length_line key (signed_decimal z) in
     omega arith
 
 -- Each figure after the first adds a comma and its own text.

@@ -1,12 +1,8 @@
 -- The laws of `advanced` and `placed`.
-use Rattle.std.proofs.Common.{◌≡◌, ℕ, ◌+◌, ◌<◌, ◌≤◌, leb, List, [], ◌++◌, length, take, drop, sym, ap, ◌∙◌, inl, inr, add-zero, arith}
-use Rattle.std.proofs.lemmas.List.{append_assoc, append-nil, take-append-drop, take_all, take_at, drop_at, drop-drop, length-append, length-take, length-drop}
+use Rattle.std.proofs.Common.{◌≡◌, ℕ, ◌+◌, ◌<◌, ◌≤◌, leb, List, ◌++◌, length, take, drop, sym, ap, ◌∙◌, inl, inr, arith}
+use Rattle.std.proofs.lemmas.List.{append_assoc, take_all, take_at, drop_at, drop-drop, length-append, length-take, length-drop}
 use Rattle.std.proofs.lemmas.Bool.{cond-true, cond-false, le-leb, lt-leb, cases_lt}
-use Rattle.report.specs.Placed.{advanced, placed}
-
--- Two advances are one.
-pub advanced_twice : (a m n : ℕ) → advanced (advanced a m) n ≡ advanced a (m + n)
-advanced_twice a m n = omega arith
+use Rattle.report.specs.Placed.{placed}
 
 -- A text that fits stands between what was before it and what was after it.
 pub placed_fits : (out : List ℕ) (at : ℕ) (t : List ℕ) → at + length t ≤ length out → placed out at t ≡ take at out ++ t ++ drop (at + length t) out
@@ -42,9 +38,3 @@ placed_twice out a t u h =
     let join : take a out ++ t ++ u ≡ take a out ++ (t ++ u) = append_assoc (take a out) t u in
     let place : a + length (t ++ u) ≡ k + length u = omega arith in
     cc
-
-pub placed_none : (out : List ℕ) (at : ℕ) → placed out at [] ≡ out
-placed_none out at = elim (cases_lt (length out) (at + 0)) [
-  | inl h ↦ placed_misfits out at [] h
-  | inr h ↦ placed_fits out at [] h ∙ simp (append-nil, add-zero, take-append-drop)
-]

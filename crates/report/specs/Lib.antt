@@ -3,3 +3,5 @@ pub mod Figures
 pub mod Lines
 pub mod Placed
 pub mod Printed
+pub mod Shown
+pub mod Writer

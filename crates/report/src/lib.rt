@@ -2,15 +2,16 @@
 // Nothing here allocates, and no call writes a part of what it was asked to write.
 #![tactic(auto)]
 
-mod digits;
 mod fault;
 mod figures;
 mod lines;
+mod printing;
+mod shown;
 #[cfg(test)]
 mod tests;
 mod writer;
 
 pub use fault::{fault_example, fault_text};
-pub use figures::put_figures_line;
-pub use lines::{put_count_line, put_line, put_signed_line};
-pub use writer::{put, put_number, put_signed};
+pub use printing::print;
+pub use shown::{Shown, show_fault};
+pub use writer::Writer;

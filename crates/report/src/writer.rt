@@ -1,11 +1,8 @@
-// Writers of one piece of text. Each writes the whole text or nothing, and gives the place after it either way:
-// a caller can run the same calls on an empty buffer first to learn how long the text is.
-ghost use Rattle.std.specs.Prelude.{◌≡◌, ◌+◌, ◌≤◌, length, decimal, nat_le};
+// A writer of text: a buffer that the caller lends, and the place where the next piece goes.
+ghost use Rattle.std.specs.Prelude.{◌≡◌, ◌+◌, ◌^◌, ◌<◌, ◌≤◌, ℕ, List, length, nat_le};
 ghost use Rattle.std.proofs.Math.Seq.{paste};
-ghost use Rattle.std.specs.Fmt.{signed_decimal};
-ghost use Rattle.report.specs.Placed.{Puts};
 
-use crate::digits::{ROOM, spell, spell_signed};
+use itoa::{Buffer, Integer};
 
 // Whether n bytes from the place `at` on lie within the first `len`.
 fn fits(len: usize, at: usize, n: usize) -> bool
@@ -15,6 +12,7 @@ fn fits(len: usize, at: usize, n: usize) -> bool
 }
 
 // Writes `piece` over the bytes from the place `at` on, where it fits.
+// No method of the writer: this promise is of the bytes alone, and a method's would also say what becomes of the writer.
 fn overwrite(out: &mut [u8], at: usize, piece: &[u8])
     requires { at + length piece.now ≤ length out.old }
     ensures { out.new ≡ paste out.old at piece.now (length piece.now) }
@@ -22,30 +20,65 @@ fn overwrite(out: &mut [u8], at: usize, piece: &[u8])
     out[at..at + piece.len()].copy_from_slice(piece);
 }
 
-// Writes `piece` from the place `at` on.
-pub fn put(out: &mut [u8], at: usize, piece: &[u8]) -> usize
-    ensures { Puts piece.now out.old at out.new result }
-{
-    if fits(out.len(), at, piece.len()) {
-        overwrite(out, at, piece);
+/// A lent buffer, and the place after what was written. Each method writes its whole text or nothing, and the place goes
+/// on by the length of the text either way: the same calls on an empty buffer tell how long a text is.
+#[derive(Drop)]
+pub struct Writer<'b> {
+    out: &'b mut [u8],
+    at: usize,
+    ghost within: { at < 2 ^ 64 },
+}
+
+impl<'b> Writer<'b> {
+    ghost use Rattle.report.specs.Writer.{EachCall, PutBy, WrittenBy};
+
+    /// Writes into `out` from the place `at` on.
+    pub fn new(out: &'b mut [u8], at: usize) -> Writer<'b>
+        ensures same { result.out.ghost_name ≡ out.entry.ghost_name }
+        ensures bytes { result.out.now ≡ out.old }
+        ensures place { result.at ≡ at }
+    {
+        Writer { out, at }
     }
-    at.saturating_add(piece.len())
-}
 
-// Writes the decimal digits of n from the place `at` on.
-pub fn put_number(out: &mut [u8], at: usize, n: u64) -> usize
-    ensures { Puts (decimal n) out.old at out.new result }
-{
-    let mut text = [0; ROOM];
-    let first = spell(n, &mut text);
-    put(out, at, &text[first..])
-}
+    /// The place after what was written.
+    pub fn end(&self) -> usize
+        ensures { result ≡ self.now.at }
+    {
+        self.at
+    }
 
-// Writes the decimal digits of z from the place `at` on, after a minus sign where z is below 0.
-pub fn put_signed(out: &mut [u8], at: usize, z: i64) -> usize
-    ensures { Puts (signed_decimal z) out.old at out.new result }
-{
-    let mut text = [0; ROOM];
-    let first = spell_signed(z, &mut text);
-    put(out, at, &text[first..])
+    /// Writes `piece`.
+    pub fn put(&mut self, piece: &[u8])
+        ensures { PutBy piece.now self.old self.new }
+    {
+        if fits(self.out.len(), self.at, piece.len()) {
+            overwrite(self.out, self.at, piece);
+        }
+        self.at = self.at.saturating_add(piece.len());
+    }
+
+    /// Writes the decimal digits of a number, after a minus sign where it is below 0.
+    pub fn put_number<N: Integer>(&mut self, n: N)
+        ensures { PutBy (N.text n) self.old self.new }
+    {
+        let mut buffer = Buffer::new();
+        self.put(buffer.format(n).as_bytes());
+    }
+
+    // Writes the text that `write` writes in parts, whole or not at all: it is measured first, on an empty buffer. So there is
+    // a call of `write`, and what each of its calls promises is so.
+    pub(crate) fn put_whole<F: Fn(&mut Writer<'_>)>(&mut self, write: F)
+        requires { F.IsAlwaysCallable write }
+        ensures calls { (w : _) × (w' : _) × F.post write w tt w' }
+        ensures puts { (text : List ℕ) → EachCall (λ w w'. F.post write w tt w') (WrittenBy text) → PutBy text self.old self.new }
+    {
+        let mut measure = Writer::new(&mut [], self.at);
+        write(&mut measure);
+        if measure.at <= self.out.len() {
+            write(self);
+        } else {
+            self.at = measure.at;
+        }
+    }
 }

@@ -2,7 +2,6 @@
 #![tactic(auto)]
 
 mod showing;
-mod shown;
 
+pub use report::Shown;
 pub use showing::show;
-pub use shown::Shown;

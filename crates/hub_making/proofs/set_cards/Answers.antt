@@ -1,15 +1,11 @@
--- Each turn writes one more unused card; at the end the first is replaced.
-use Rattle.std.proofs.Common.{◌≡◌, ◌<◌, length, arith}
+-- Each card is what the call returned; then the first is replaced.
+use Rattle.std.proofs.Common.{◌∙◌, rules, sym}
+use Rattle.std.proofs.lemmas.List.{map-id}
 use Rattle.hub_cards.specs.Tables.{blank_card}
-use Rattle.hub_making.proofs.MakingSteps.{all_same, same_more, then_first}
+use Rattle.hub_making.proofs.MakingSteps.{filled, then_first}
 use Rattle.hub_making.proofs.set_cards.Goals as goal
-
-pub loop-card-preserved : goal.loop-card-preserved
-loop-card-preserved g c =
-    let within : c.loop-card.card-index < length c.loop-card.cards = omega arith in
-    same_more c.loop-card.cards c.loop-card.card-index (blank_card c.args.none) within c.loop-card.invariant
 
 pub returns : goal.returns
 returns g c =
-    let end : c.loop-card.card-index ≡ length c.args.cards.now = omega arith in
-    then_first c.loop-card.cards _ _ _ (all_same c.loop-card.cards c.loop-card.card-index _ (blank_card c.args.none) c.loop-card.auto.cards end c.loop-card.invariant) c.requires
+    let all = filled _ (λ x. x) (blank_card c.args.none) _ (λ x q step. search rules) _ _ c.fill_with.ensures.ran.1 in
+    rw c.unused-unused.ensures (then_first c.fill_with.new.self _ _ _ (sym (map-id c.fill_with.new.self) ∙ all) c.fill_with.ensures.len c.requires)

@@ -1,30 +1,13 @@
-use Rattle.std.proofs.Common.{length}
-use Rattle.hub_runs.specs.States.{lent}
-use Rattle.hub_making.specs.Making.{sized}
-use Rattle.hub.proofs.RunDone.{not_made, places_tested, ran}
+-- A hub that is made is taken on by all calls.
+use Rattle.hub_runs.specs.States.{held}
+use Rattle.hub_making.specs.Making.{asked}
+use Rattle.hub.proofs.RunDone.{ran}
 use Rattle.hub.proofs.running.run.Goals as goal
 
-pub returns-in-Ok : goal.returns-in-Ok
-returns-in-Ok g c =
+pub returns-clause-runs : goal.returns-clause-runs
+returns-clause-runs g c =
     let kind = g.R.Register in
     let args = c.args in
-    let size = sized args.commands args.kills args.cards in
-    let before = lent args.table.now args.masters.now args.master_registers.now args.backups.now args.backup_registers.now in
-    let made = c.make.new in
-    let mid = lent made.table made.masters made.master_registers made.backups made.backup_registers in
-    let last = c.carry_out_all.new in
-    let after = lent last.table last.masters last.master_registers last.backups last.backup_registers in
-    let tested = places_tested size c.counts_fit.result (length args.answers.now) (length args.calls.now) c.counts_fit.ensures c.else-counts_fit.either in
-    ran kind.figures kind.start kind.rule size args.moves.now args.calls.now before args.answers.now tested
-    c.in-Ok.made last.hub mid after last.answers c.in-Ok.ensures.run c.carry_out_all.ensures.size c.carry_out_all.ensures.carried
-
-pub returns-in-Err : goal.returns-in-Err
-returns-in-Err g c =
-    let kind = g.R.Register in
-    let args = c.args in
-    let size = sized args.commands args.kills args.cards in
-    let before = lent args.table.now args.masters.now args.master_registers.now args.backups.now args.backup_registers.now in
-    let made = c.make.new in
-    let mid = lent made.table made.masters made.master_registers made.backups made.backup_registers in
-    let tested = places_tested size c.counts_fit.result (length args.answers.now) (length args.calls.now) c.counts_fit.ensures c.else-counts_fit.either in
-    not_made kind.figures kind.start kind.rule size args.moves.now args.calls.now before args.answers.now tested c.in-Err.refusal mid c.in-Err.ensures.run
+    let size = asked args.counts in
+    ran kind.figures kind.start kind.rule size args.moves.now args.calls.now (held args.tables.now) args.answers.now _ c.counts_fit.ensures c.else-counts_fit.either
+    c.in_ok-hub.hub c.carry_out_all.new.hub (held c.make.new.tables) (held c.carry_out_all.new.tables) c.carry_out_all.new.answers c.in_ok-hub.ensures.run c.carry_out_all.ensures.size c.carry_out_all.ensures.carried

@@ -1,18 +1,27 @@
--- The card that the search found is written back as lost.
-use Rattle.std.proofs.Common.{sym, arith}
+-- The card that the search found is one of the table's, and is written back as lost.
+use Rattle.std.proofs.Common.{arith, rules}
 use Rattle.hub_steps.proofs.CardLosses.{card_lost}
-use Rattle.hub_steps.proofs.CardTables.{active_within}
+use Rattle.hub_steps.proofs.CardTables.{active_is_within}
 use Rattle.hub_steps.proofs.card_steps.lose.Goals as goal
 
-pub card_at-card-requires : goal.card_at-card-requires
-card_at-card-requires g c =
-    let found = active_within c.args.cards.now _ (sym c.in-Some.ensures) in
-    (omega arith, omega arith)
+pub overflow_sub-number : goal.overflow_sub-number
+overflow_sub-number g c = (active_is_within _ _ _ c.in-Some.ensures c.number.ensures).0
 
-pub put_card-requires : goal.put_card-requires
-put_card-requires g c =
-    let found = active_within c.args.cards.now _ (sym c.in-Some.ensures) in
-    (omega arith, omega arith)
+pub offset_bounds-cards-number : goal.offset_bounds-cards-number
+offset_bounds-cards-number g c =
+    let within = active_is_within _ _ _ c.in-Some.ensures c.number.ensures in
+    search rules
+
+pub bounds-cards-number : goal.bounds-cards-number
+bounds-cards-number g c =
+    let within = active_is_within _ _ _ c.in-Some.ensures c.number.ensures in
+    omega arith
+
+pub bounds-cards-number-in-Some : goal.bounds-cards-number-in-Some
+bounds-cards-number-in-Some g c =
+    let within = active_is_within _ _ _ c.in-Some.ensures c.number.ensures in
+    omega arith
 
 pub returns : goal.returns
-returns g c = card_lost _ _ c.number-number.result c.args.cards.now c.put_card.new.cards c.card_at-card.result c.in-Some.ensures c.number-number.ensures c.card_at-card.ensures c.put_card.ensures
+returns g c =
+    card_lost _ _ _ c.args.cards.now _ c.in-Some.ensures c.number.ensures (active_is_within _ _ _ c.in-Some.ensures c.number.ensures)

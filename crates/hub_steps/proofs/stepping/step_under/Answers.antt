@@ -1,54 +1,45 @@
-use Rattle.std.proofs.Common.{◌≡◌, true, false, refl, rules}
-use Rattle.hub_runs.specs.Judging.{is_numbered, may_lose}
+-- The causes 7 and 8 are tested here; what is carried out is then what the model goes on to.
+use Rattle.std.proofs.Common.{◌≡◌, true, false, refl, arith, rules}
+use Rattle.std.proofs.lemmas.Result.{err_from_is_err_and}
+use Rattle.std.proofs.lemmas.Grind.{common_steps}
 use Rattle.refusals.specs.declared.Refusal.TheVariants.{LossesUsedUp, NoSuchCommand}
-use Rattle.hub_runs.specs.States.{lent, size_of, state_in}
-use Rattle.hub_steps.proofs.Judged.{denied_so, else_of_command, judged_arm, judged_command, losses_used_up, not_numbered}
+use Rattle.actions.specs.Letters.{is_loss}
+use Rattle.hub_runs.specs.Judging.{is_numbered, may_lose}
+use Rattle.hub_runs.specs.States.{size_of}
+use Rattle.hub_steps.specs.Counting.{in_order}
+use Rattle.hub_steps.specs.Held.{state_held}
+use Rattle.hub_steps.proofs.Judged.{allowed, denied_so, losses_used_up, not_numbered, then_counted}
 use Rattle.hub_steps.proofs.stepping.step_under.Goals as goal
+use Rattle.hub_steps.proofs.stepping.step_under.Goals.{then-is_loss, else-is_loss}
 
-pub returns-then-not-is_numbered : goal.returns-then-not-is_numbered
-returns-then-not-is_numbered g c =
-    let s = state_in g.R.Register.figures c.args.hub.now (lent c.args.commands.now c.args.masters.now c.args.master_registers.now c.args.backups.now c.args.backup_registers.now) in
+pub returns-then-not-is_numbered-clause-answered : goal.returns-then-not-is_numbered-clause-answered
+returns-then-not-is_numbered-clause-answered g c =
+    let s = state_held g.R.Register.figures c.args.hub.now c.args.tables.now in
     let no : is_numbered (size_of c.args.hub.now) c.args.action c.args.command ≡ false = search rules in
-    record { size = refl; answered = denied_so (Unit {0}) _ s s NoSuchCommand (not_numbered (size_of c.args.hub.now) g.R.Register.rule c.args.action c.args.command s no) refl; registers = (refl, refl) }
+    denied_so (Unit {0}) _ s s NoSuchCommand (not_numbered (size_of c.args.hub.now) g.R.Register.rule c.args.action c.args.command s no) refl
 
-pub returns-then-not-may_lose : goal.returns-then-not-may_lose
-returns-then-not-may_lose g c =
-    let s = state_in g.R.Register.figures c.args.hub.now (lent c.args.commands.now c.args.masters.now c.args.master_registers.now c.args.backups.now c.args.backup_registers.now) in
+pub returns-then-not-may_lose-clause-answered : goal.returns-then-not-may_lose-clause-answered
+returns-then-not-may_lose-clause-answered g c =
+    let s = state_held g.R.Register.figures c.args.hub.now c.args.tables.now in
     let numbered : is_numbered (size_of c.args.hub.now) c.args.action c.args.command ≡ true = search rules in
     let no : may_lose (size_of c.args.hub.now) c.args.action c.args.hub.now.losses ≡ false = search rules in
-    record { size = refl; answered = denied_so (Unit {0}) _ s s LossesUsedUp (losses_used_up (size_of c.args.hub.now) g.R.Register.rule c.args.action c.args.command s numbered no) refl; registers = (refl, refl) }
+    denied_so (Unit {0}) _ s s LossesUsedUp (losses_used_up (size_of c.args.hub.now) g.R.Register.rule c.args.action c.args.command s numbered no) refl
 
-pub returns-in-CreatingNewBackup : goal.returns-in-CreatingNewBackup
-returns-in-CreatingNewBackup g c =
+pub returns-in_err-carry_out-clause-answered : goal.returns-in_err-carry_out-clause-answered
+returns-in_err-carry_out-clause-answered g c =
+    let s = state_held g.R.Register.figures c.args.hub.now c.args.tables.now in
     let numbered : is_numbered (size_of c.args.hub.now) c.args.action c.args.command ≡ true = search rules in
     let lose : may_lose (size_of c.args.hub.now) c.args.action c.args.hub.now.losses ≡ true = search rules in
-    record { size = c.create_backup.ensures.size; answered = judged_arm _ _ _ _ _ _ _ _ _ c.in-CreatingNewBackup.is numbered lose refl c.create_backup.ensures.answered; registers = c.create_backup.ensures.registers }
+    let is = allowed (size_of c.args.hub.now) g.R.Register.rule c.args.action c.args.command s numbered lose in
+    let p = err_from_is_err_and c.from_residual.result c.from_residual.ensures.1 in
+    rw (p.1, p.2, is) c.in_err-carry_out.ensures.answered
 
-pub returns-in-CreatingNewMaster : goal.returns-in-CreatingNewMaster
-returns-in-CreatingNewMaster g c =
+pub returns-clause-answered : goal.returns-clause-answered
+returns-clause-answered g c =
+    let s = state_held g.R.Register.figures c.args.hub.now c.args.tables.now in
     let numbered : is_numbered (size_of c.args.hub.now) c.args.action c.args.command ≡ true = search rules in
     let lose : may_lose (size_of c.args.hub.now) c.args.action c.args.hub.now.losses ≡ true = search rules in
-    record { size = c.create_master.ensures.size; answered = judged_arm _ _ _ _ _ _ _ _ _ c.in-CreatingNewMaster.is numbered lose refl c.create_master.ensures.answered; registers = c.create_master.ensures.registers }
-
-pub returns-in-KillingMaster : goal.returns-in-KillingMaster
-returns-in-KillingMaster g c =
-    let numbered : is_numbered (size_of c.args.hub.now) c.args.action c.args.command ≡ true = search rules in
-    let lose : may_lose (size_of c.args.hub.now) c.args.action c.args.hub.now.losses ≡ true = search rules in
-    record { size = c.kill_master.ensures.size; answered = judged_arm _ _ _ _ _ _ _ _ _ c.in-KillingMaster.is numbered lose refl c.kill_master.ensures.answered; registers = c.kill_master.ensures.registers }
-
-pub returns-in-KillingBackup : goal.returns-in-KillingBackup
-returns-in-KillingBackup g c =
-    let numbered : is_numbered (size_of c.args.hub.now) c.args.action c.args.command ≡ true = search rules in
-    let lose : may_lose (size_of c.args.hub.now) c.args.action c.args.hub.now.losses ≡ true = search rules in
-    record { size = c.kill_backup.ensures.size; answered = judged_arm _ _ _ _ _ _ _ _ _ c.in-KillingBackup.is numbered lose refl c.kill_backup.ensures.answered; registers = c.kill_backup.ensures.registers }
-
-pub returns-in_default : goal.returns-in_default
-returns-in_default g c =
-    let numbered : is_numbered (size_of c.args.hub.now) c.args.action c.args.command ≡ true = search rules in
-    let lose : may_lose (size_of c.args.hub.now) c.args.action c.args.hub.now.losses ≡ true = search rules in
-    let rest = c.in_default in
-    record {
-      size = c.step_command.ensures.size;
-      answered = judged_command _ _ _ _ _ _ _ _ numbered lose (else_of_command _ rest.not-CreatingNewBackup rest.not-CreatingNewMaster rest.not-KillingMaster rest.not-KillingBackup) c.step_command.ensures.answered;
-      registers = c.step_command.ensures.registers;
-    }
+    let is = allowed (size_of c.args.hub.now) g.R.Register.rule c.args.action c.args.command s numbered lose in
+    let s' = state_held g.R.Register.figures c.carry_out.new.hub c.carry_out.new.tables in
+    rw is
+    (then_counted {T = Unit {0}} tt (in_order (size_of c.args.hub.now) g.R.Register.rule c.args.action c.args.command s) s s' (is_loss c.args.action) _ (elim c.if-is_loss.branch [ then-is_loss w ↦ grind (arith, common_steps) | else-is_loss w ↦ grind (arith, common_steps) ]) c.in_ok-carry_out.ensures.answered)

@@ -1,12 +1,9 @@
 -- A turn moves the invariant on by one card; the first active card ends the search.
-use Rattle.std.proofs.Common.{Some, sym, refl, ap, ◌∙◌}
+use Rattle.std.proofs.Common.{Some, sym, ap, ◌∙◌}
 use Rattle.std.proofs.lemmas.Bool.{cond-false, cond-true}
 use Rattle.hub_cards.specs.Statuses.{is_active}
 use Rattle.hub_tables.proofs.SearchSteps.{first_end, first_step}
 use Rattle.hub_tables.proofs.search.active_card.Goals as goal
-
-pub loop-i-init : goal.loop-i-init
-loop-i-init g c = refl
 
 pub loop-i-preserved : goal.loop-i-preserved
 loop-i-preserved g c =

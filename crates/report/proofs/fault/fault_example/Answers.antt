@@ -2,6 +2,6 @@ use Rattle.std.proofs.Common.{refl}
 use Rattle.std.specs.Fmt.{digits}
 use Rattle.report.proofs.fault.fault_example.Goals as goal
 
-pub returns : goal.returns
+pub returns-clause-worked : goal.returns-clause-worked
 unfolding digits
-returns c = record { bytes = refl; worked = refl }
+returns-clause-worked c = refl
