@@ -1,6 +1,6 @@
 -- The report of a hub, as text: ten lines, of which three are of the last master and three of the last backup.
-use Rattle.std.specs.Prelude.{ℕ, cond, List, [], ◌++◌, ℤ, None, codes, decimal, Option, ◌==◌}
-pub use Rattle.registers.specs.Mean.{mean_of_first}
+use Rattle.std.specs.Prelude.{ℕ, cond, List, [], ◌++◌, ℤ, codes, decimal, ◌==◌}
+pub use Rattle.registers.specs.Mean.{mean_of, mean_of_first}
 use Rattle.hub_cards.specs.Tables.{at}
 pub use Rattle.hub_records.specs.Names.{state_name}
 use Rattle.hub_records.specs.declared.look.Look.{Look}
@@ -21,10 +21,6 @@ role_text number_key version_key register_key number version figures =
     line_text number_key (decimal number)
     ++ (line_text version_key (decimal version)
     ++ line_text register_key (register_text number figures))
-
--- The first figure over the version. Only a sum, the kind with the number 1, has a mean.
-abbrev pub mean_of : ℕ → List ℤ → ℕ → Option ℤ
-mean_of code figures version = cond (code == 1) (mean_of_first figures version) None
 
 -- The text of a look, with registers of the kind `code`; `master` and `backup` are the figures of the last cards.
 unfoldable pub look_text : (code : ℕ) → Look → (master backup : List ℤ) → List ℕ
