@@ -22,7 +22,7 @@ never : {A : Type 0} (hub : Hub) (refusal : Refusal) → ◌≡◌ {A = Result H
 never hub refusal e = let z : ◌≡◌ {A = ℕ} 0 1 = cc in let no : ⊥ = omega arith in absurd no
 
 -- The two ways past the test of the places.
-places_tested : (size : Size) (fit : Bool) (places calls : ℕ) → fit ≡ counts_fit size → ((fit ≡ true) × (places ≡ calls)) ⊎ (fit ≡ false) → (counts_fit size && not (eqb places calls)) ≡ false
+pub places_tested : (size : Size) (fit : Bool) (places calls : ℕ) → fit ≡ counts_fit size → ((fit ≡ true) × (places ≡ calls)) ⊎ (fit ≡ false) → (counts_fit size && not (eqb places calls)) ≡ false
 places_tested size fit places calls told (inr unfit) = and_left _ _ (sym told ∙ unfit)
 places_tested size fit places calls told (inl both) = and_right _ _ (not_from_true _ (eq-eqb _ _ both.1))
 

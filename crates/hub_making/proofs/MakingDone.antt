@@ -57,7 +57,11 @@ begins figures start size moves before after hub new lengths inside all =
     let h = and_parts _ _ f.1 in
     record { its_size = new.as_asked; its_state = stands hub size start moves _ _ _ _ _ new all.commands (all.masters ∙ ap (first_card (the_backup 1) (the_backup 0)) (eqb-true _ _ d.0)) (all.backups ∙ ap (first_card (the_master 1) (the_master 0)) (eqb-true _ _ h.0)) (all.master_registers ∙ ap (λ k. replicate k start) (eqb-true _ _ f.0)) (all.backup_registers ∙ ap (λ k. replicate k start) (eqb-true _ _ h.1)); its_limits = limits size moves before new.fits lengths inside }
 
--- With a law of the register's kind, a run begins too.
+pub makes : {R : Type 0} (figures : R → List ℤ) (start : List ℤ) (size : Size) (moves : List ℤ) (before after : Lent R) (hub : Hub) → NewHub size hub → all_lengths_fit size moves before ≡ true → first_outside 1 moves ≡ None → AllSet figures start moves before after → Makes figures start size moves before (Ok hub) after
+makes figures start size moves before after hub new lengths inside all =
+    subst (λ (o : Option Refusal). Follows o (Begins figures start size moves) before (Ok hub) after) (sym (no_cause size moves before new.fits lengths inside)) (begins figures start size moves before after hub new lengths inside all)
+
+-- And with a law of the register's kind, a run begins.
 module _ {R : Type 0} (figures : R → List ℤ) (start : List ℤ) (rule : Rule) (law : Commutes start rule) (size : Size) (moves : List ℤ) (before after : Lent R) (hub : Hub) where
   begins_a_run : Begins figures start size moves after hub → BeginsRun figures start rule size moves after hub
   begins_a_run begun = record {
@@ -66,8 +70,6 @@ module _ {R : Type 0} (figures : R → List ℤ) (start : List ℤ) (rule : Rule
     its_run = begins_run start rule law size moves begun.its_limits (state_in figures hub after) begun.its_state;
   }
 
-  pub makes : NewHub size hub → all_lengths_fit size moves before ≡ true → first_outside 1 moves ≡ None → AllSet figures start moves before after
-      → Makes figures start size moves before (Ok hub) after × MakesRun figures start rule size moves before (Ok hub) after
-  makes new lengths inside all =
-      let begun = begins figures start size moves before after hub new lengths inside all in
-      subst (λ (o : Option Refusal). Follows o (Begins figures start size moves) before (Ok hub) after × Follows o (BeginsRun figures start rule size moves) before (Ok hub) after) (sym (no_cause size moves before new.fits lengths inside)) (begun, begins_a_run begun)
+  pub makes_a_run : NewHub size hub → all_lengths_fit size moves before ≡ true → first_outside 1 moves ≡ None → AllSet figures start moves before after → MakesRun figures start rule size moves before (Ok hub) after
+  makes_a_run new lengths inside all =
+      subst (λ (o : Option Refusal). Follows o (BeginsRun figures start rule size moves) before (Ok hub) after) (sym (no_cause size moves before new.fits lengths inside)) (begins_a_run (begins figures start size moves before after hub new lengths inside all))

@@ -101,6 +101,7 @@ fn set_registers<R: Register>(registers: &mut [R])
 /// It is refused where a count is outside its limits, a table has another length than the counts say, or a move is
 /// outside the limits, in this order; a refusal changes no table.
 // `slices` stands wherever `&mut Tables` is taken: of a struct that holds a `&mut` a caller knows only what a clause says.
+#[inline]
 pub fn make<R: Register>(
     counts: Counts,
     moves: &[i32],

@@ -44,7 +44,8 @@ impl<R: Register> LastCard<'_, R> {
         mean_of(R::kind(), self.register()?, self.version)
     }
 
-    // All lines of the role, each if it fits.
+    // All lines of the role, each if it fits. The hint shows the keys to LLVM as constants (see `lines.rt` of crate report).
+    #[inline(always)]
     pub(crate) fn write(&self, keys: Keys, writer: &mut Writer<'_>)
         ensures short { length (role_text keys.number.now keys.version.now keys.register.now self.now.number self.now.version (figures_of R.figures self.now)) ≤ length keys.number.now + length keys.version.now + length keys.register.now + 21550 }
         ensures writes { WrittenBy (role_text keys.number.now keys.version.now keys.register.now self.now.number self.now.version (figures_of R.figures self.now)) writer.old writer.new }

@@ -29,7 +29,7 @@ use Rattle.hub_runs.proofs.Open.{open_step}
 use Rattle.hub_runs.proofs.Within.{few_steps, run_fits}
 
 module _ (start : List ℤ) (rule : Rule) where
-  fine_run : (size : Size) (moves : List ℤ) → Limits size moves → (calls : List Call) → Fine size (run_of size start rule moves calls).state (run_of size start rule moves calls).lists
+  pub fine_run : (size : Size) (moves : List ℤ) → Limits size moves → (calls : List Call) → Fine size (run_of size start rule moves calls).state (run_of size start rule moves calls).lists
   fine_run size moves limits calls =
       run_keeps size rule (λ r. Fine size r.state r.lists) (λ action c s r next fine. action_keeps size rule action c r.state s r.lists fine next) (λ _ _ _ fine. fine) start moves (begun_fine size start moves limits) calls
 

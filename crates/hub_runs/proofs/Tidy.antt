@@ -23,7 +23,7 @@ tidy_put {n} {places} {lists} tidy i list new = record {
 }
 
 -- One command more, which the list did not hold.
-tidy_more : (n c : ℕ) (list : List ℕ) → TidyList n list → times c list ≡ 0 → 1 ≤ c → c ≤ n → TidyList n (list ++ (c ∷ []))
+pub tidy_more : (n c : ℕ) (list : List ℕ) → TidyList n list → times c list ≡ 0 → 1 ≤ c → c ≤ n → TidyList n (list ++ (c ∷ []))
 tidy_more n c list tidy none low high d =
     let sum : times d (list ++ (c ∷ [])) ≡ times d list + times d (c ∷ []) = times-append d list (c ∷ []) in
     ⊎_elim

@@ -6,3 +6,4 @@ pub mod CardMakings
 pub mod CardAnswers
 pub mod Fitted
 pub mod Judged
+mod AsAnswered

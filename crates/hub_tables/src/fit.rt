@@ -63,28 +63,84 @@ fn cards_fit<P: CardNumber>(cards: usize, table: &[Card<P>]) -> bool
     table.iter().all(|&card| card_fits(cards, card))
 }
 
+// Whether there are so many commands, and so many cards and registers of each role, of tables that are given by their lengths.
+#[inline]
+fn lengths_fit(
+    commands: usize,
+    cards: usize,
+    of_commands: usize,
+    of_masters: usize,
+    of_master_registers: usize,
+    of_backups: usize,
+    of_backup_registers: usize,
+) -> bool
+    ensures { result ≡ lengths_fit commands cards of_commands of_masters of_master_registers of_backups of_backup_registers }
+{
+    of_commands == commands
+        && of_masters == cards
+        && of_master_registers == cards
+        && of_backups == cards
+        && of_backup_registers == cards
+}
+
+/// Whether the tables of a hub fit together: their lengths are those that the hub has, no record has the number of a card
+/// that there is not, each move keeps to the limits, only working commands hold a message, and every count has room.
+/// The tables of registers are given by their lengths: a caller may ask before there are any.
+#[inline]
+pub fn tables_fit(
+    hub: &Hub,
+    commands: &[Command],
+    masters: &[Card<BackupNumber>],
+    master_registers: usize,
+    backups: &[Card<MasterNumber>],
+    backup_registers: usize,
+) -> bool
+    ensures { result ≡ fits hub.now.commands hub.now.cards commands.now masters.now backups.now hub.now.steps master_registers backup_registers }
+{
+    let cards = hub.cards as usize;
+    lengths_fit(
+        hub.commands as usize,
+        cards,
+        commands.len(),
+        masters.len(),
+        master_registers,
+        backups.len(),
+        backup_registers,
+    ) && has_room(hub.steps)
+        && commands_fit(cards, commands)
+        && cards_fit(cards, masters)
+        && cards_fit(cards, backups)
+}
+
 impl<R> View<'_, R> {
     /// Whether there are so many commands, and so many cards and registers of each role.
     pub fn lengths_fit(&self, commands: usize, cards: usize) -> bool
         ensures { result ≡ lengths_fit commands cards (length self.now.commands.now) (length self.now.masters.now) (length self.now.master_registers.now) (length self.now.backups.now) (length self.now.backup_registers.now) }
     {
-        self.commands.len() == commands
-            && self.masters.len() == cards
-            && self.master_registers.len() == cards
-            && self.backups.len() == cards
-            && self.backup_registers.len() == cards
+        lengths_fit(
+            commands,
+            cards,
+            self.commands.len(),
+            self.masters.len(),
+            self.master_registers.len(),
+            self.backups.len(),
+            self.backup_registers.len(),
+        )
     }
 
-    /// Whether the tables of a hub fit together: their lengths are those that the hub has, no record has the number of a card
-    /// that there is not, each move keeps to the limits, only working commands hold a message, and every count has room.
+    /// Whether the tables of a hub fit together: `tables_fit` of these tables.
     pub fn fit(&self, hub: &Hub) -> bool
         ensures { result ≡ fits hub.now.commands hub.now.cards self.now.commands.now self.now.masters.now self.now.backups.now hub.now.steps (length self.now.master_registers.now) (length self.now.backup_registers.now) }
     {
-        let cards = hub.cards as usize;
-        self.lengths_fit(hub.commands as usize, cards)
-            && has_room(hub.steps)
-            && commands_fit(cards, self.commands)
-            && cards_fit(cards, self.masters)
-            && cards_fit(cards, self.backups)
+        let master_registers = self.master_registers.len();
+        let backup_registers = self.backup_registers.len();
+        tables_fit(
+            hub,
+            self.commands,
+            self.masters,
+            master_registers,
+            self.backups,
+            backup_registers,
+        )
     }
 }

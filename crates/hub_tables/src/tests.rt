@@ -1,4 +1,5 @@
 // What the searches and the check of the tables answer on examples.
+use super::fit::tables_fit;
 use super::search::*;
 use super::tables::View;
 use hub_cards::*;
@@ -115,4 +116,24 @@ fn a_command_has_to_fit(rt: HostRuntime) {
     assert!(rt; !fit(0, command(0, Phase::Done, 0, near), card, 0, &[0]));
     assert!(rt; !fit(0, command(9001, Phase::Pending, 0, None), card, 0, &[0]));
     assert!(rt; !fit(0, command(0, Phase::Pending, 2, None), card, 0, &[0]));
+}
+
+// The registers are given by their number, which may be that of tables that there are not.
+#[test]
+fn tables_fit_by_the_number_of_their_registers(rt: HostRuntime) {
+    let hub = Hub {
+        commands: 1,
+        kills: 0,
+        cards: 1,
+        state: ExecState::Running,
+        losses: 0,
+        steps: 0,
+    };
+    let commands = [command(0, Phase::Pending, 0, None)];
+    let masters = [master(Status::Active, 1, 7)];
+    let backups = [card(Status::Active, MasterNumber(1), 7)];
+    assert!(rt; tables_fit(&hub, &commands, &masters, 1, &backups, 1));
+    assert!(rt; !tables_fit(&hub, &commands, &masters, 0, &backups, 1));
+    assert!(rt; !tables_fit(&hub, &commands, &masters, 1, &backups, 2));
+    assert!(rt; !tables_fit(&hub, &commands, &masters, 1, &[], 1));
 }

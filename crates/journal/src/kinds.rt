@@ -25,6 +25,16 @@ impl Accepted {
             Accepted::Only(wanted) => wanted == Some(kind),
         }
     }
+
+    // The same of a register whose kind comes as its number, which is 0 where the kind has no name.
+    pub fn includes_number(self, number: u8) -> bool
+        ensures { result ≡ is_accepted self number }
+    {
+        match self {
+            Accepted::AnyNamed => true,
+            Accepted::Only(wanted) => wanted.map_or(0, Kind::number) == number,
+        }
+    }
 }
 
 // The kind that a name stands for.

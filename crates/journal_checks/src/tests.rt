@@ -111,6 +111,7 @@ fn a_step_is_taken_apart(rt: HostRuntime) -> Result<(), Fail> {
     assert_eq!(rt; number.text, b"1".as_slice());
     assert_eq!(rt; number.at, value.at.saturating_add(1));
     assert_eq!(rt; action, Action::BackupDoing);
+    assert_eq!(rt; action.place(), 3);
     assert_eq!(rt; command, 1);
     assert!(rt;
         matches!(
@@ -141,5 +142,19 @@ fn only_the_callers_register(rt: HostRuntime) {
         }
         let accepted = matches!(reader.next_line(), Ok(Some(_)));
         assert_eq!(rt; accepted, kind == Some(Kind::Classes));
+    }
+}
+
+#[test]
+fn a_register_may_come_as_its_number(rt: HostRuntime) {
+    assert!(rt; Accepted::AnyNamed.includes_number(0));
+    assert!(rt; Accepted::AnyNamed.includes_number(7));
+    assert!(rt; Accepted::Only(None).includes_number(0));
+    assert!(rt; !Accepted::Only(None).includes_number(1));
+    for number in 1..=3 {
+        let accepted = Accepted::Only(Kind::of_number(number));
+        assert!(rt; accepted.includes_number(number));
+        assert!(rt; !accepted.includes_number(0));
+        assert!(rt; !accepted.includes_number(number + 1));
     }
 }

@@ -1,5 +1,5 @@
 -- The numbers and the names of the kinds of register.
-use Rattle.std.specs.Prelude.{ℕ, List, codes, Some, None, Option}
+use Rattle.std.specs.Prelude.{ℕ, cond, List, codes, Some, None, Option, ◌==◌}
 use Rattle.registers.specs.declared.kind.Kind.{Kind}
 use Rattle.registers.specs.declared.kind.Kind.TheVariants.{Sum, Classes, Peak}
 
@@ -8,6 +8,10 @@ abbrev pub number_of : Kind → ℕ
 number_of Sum = 1
 number_of Classes = 2
 number_of Peak = 3
+
+-- The kind of a number, if a kind has that number.
+abbrev pub kind_of : ℕ → Option Kind
+kind_of n = cond (n == 1) (Some Sum) (cond (n == 2) (Some Classes) (cond (n == 3) (Some Peak) None))
 
 -- The number of the kind that a register answers: 0 where its kind has no name.
 abbrev pub code_of : Option Kind → ℕ

@@ -79,6 +79,16 @@ fn a_kind_has_its_number_and_its_name(rt: HostRuntime) {
 }
 
 #[test]
+fn a_number_is_of_one_kind_or_of_none(rt: HostRuntime) {
+    assert_eq!(rt; Kind::of_number(0), None);
+    assert_eq!(rt; Kind::of_number(1), Some(Kind::Sum));
+    assert_eq!(rt; Kind::of_number(2), Some(Kind::Classes));
+    assert_eq!(rt; Kind::of_number(3), Some(Kind::Peak));
+    assert_eq!(rt; Kind::of_number(4), None);
+    assert_eq!(rt; Kind::of_number(255), None);
+}
+
+#[test]
 fn the_mean_is_that_of_the_first_figure(rt: HostRuntime) {
     assert_eq!(rt; mean_of(Some(Kind::Sum), &Sum::empty(), 2), Some(0));
     assert_eq!(rt; mean_of(Some(Kind::Sum), &Sum::empty(), 0), None);

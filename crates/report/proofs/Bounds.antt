@@ -9,7 +9,7 @@ use Rattle.registers.specs.Kind.{Fits64}
 use Rattle.report.specs.Figures.{figure_after_comma, figures_text}
 use Rattle.report.specs.Lines.{line_text, mean_text}
 
-length_line : (key value : List ℕ) → length (line_text key value) ≡ length key + length value + 2
+pub length_line : (key value : List ℕ) → length (line_text key value) ≡ length key + length value + 2
 length_line key value =
     let outer : length (line_text key value) ≡ length (key ++ (61 ∷ value)) + 1 = length-append (key ++ (61 ∷ value)) (10 ∷ []) in
     let inner : length (key ++ (61 ∷ value)) ≡ length key + length (61 ∷ value) = length-append key (61 ∷ value) in

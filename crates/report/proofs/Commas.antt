@@ -6,9 +6,8 @@ use Rattle.std.proofs.lemmas.Bool.{cases_lt}
 use Rattle.std.specs.List.{slice_get}
 use Rattle.std.specs.Fmt.{signed_decimal}
 use Rattle.report.specs.Figures.{figure_after_comma, figures_text}
-use Rattle.report.specs.Writer.{WrittenBy}
-use Rattle.report.specs.declared.writer.Writer.{Writer}
-use Rattle.report.proofs.Writing.{written_then, written_as}
+use Rattle.report.specs.Placed.{Writes}
+use Rattle.report.proofs.Writing.{writes_then, writes_as}
 
 -- The first figure stands alone.
 figures_first : (zs : List ℤ) (z : ℤ) → length zs ≡ 0 → figures_text zs ++ signed_decimal z ≡ figures_text (zs ++ z ∷ [])
@@ -29,11 +28,11 @@ take_nth zs i z h e =
     cc
 
 -- The figures up to a place were written, and then the figure at that place.
-pub written_figure : (zs : List ℤ) (i : ℕ) (z : ℤ) {w w' w'' : Writer} → i < length zs → slice_get zs i ≡ Some z → WrittenBy (figures_text (take i zs)) w w' → (i ≡ 0 → WrittenBy (signed_decimal z) w' w'') → (0 < i → WrittenBy (figure_after_comma z) w' w'') → WrittenBy (figures_text (take (i + 1) zs)) w w''
-written_figure zs i z h e x first later =
+pub writes_figure : (zs : List ℤ) (i : ℕ) (z : ℤ) {out : List ℕ} {at : ℕ} {mid : List ℕ} {r : ℕ} {out' : List ℕ} {r' : ℕ} → i < length zs → slice_get zs i ≡ Some z → Writes (figures_text (take i zs)) out at mid r → (i ≡ 0 → Writes (signed_decimal z) mid r out' r') → (0 < i → Writes (figure_after_comma z) mid r out' r') → Writes (figures_text (take (i + 1) zs)) out at out' r'
+writes_figure zs i z h e x first later =
     let long : length (take i zs) ≡ i = length-take i zs ∙ omega arith in
     let grown : figures_text (take i zs ++ z ∷ []) ≡ figures_text (take (i + 1) zs) = ap figures_text (take_nth zs i z h e) in
     elim (cases_lt 0 i) [
-      | inl some ↦ written_as (figures_later (take i zs) z (omega arith) ∙ grown) (written_then x (later some))
-      | inr none ↦ written_as (figures_first (take i zs) z (omega arith) ∙ grown) (written_then x (first (omega arith)))
+      | inl some ↦ writes_as (figures_later (take i zs) z (omega arith) ∙ grown) (writes_then x (later some))
+      | inr none ↦ writes_as (figures_first (take i zs) z (omega arith) ∙ grown) (writes_then x (first (omega arith)))
     ]

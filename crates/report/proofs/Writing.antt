@@ -7,7 +7,7 @@ use Rattle.report.specs.declared.writer.Writer.{Writer}
 use Rattle.report.proofs.Placing.{placed_twice, length-placed}
 
 -- A call that writes t whole or not at all.
-puts_writes : {t out : List ℕ} {at : ℕ} {out' : List ℕ} {r : ℕ} → Puts t out at out' r → Writes t out at out' r
+pub puts_writes : {t out : List ℕ} {at : ℕ} {out' : List ℕ} {r : ℕ} → Puts t out at out' r → Writes t out at out' r
 puts_writes {t} {out} {at} p = record {
   next = p.next;
   long = ap length p.buffer ∙ length-placed out at t;
@@ -15,7 +15,7 @@ puts_writes {t} {out} {at} p = record {
 }
 
 -- Two calls one after the other, the second at the place that the first gave.
-writes_then : {t u out : List ℕ} {at : ℕ} {mid : List ℕ} {r : ℕ} {out' : List ℕ} {r' : ℕ} → Writes t out at mid r → Writes u mid r out' r' → Writes (t ++ u) out at out' r'
+pub writes_then : {t u out : List ℕ} {at : ℕ} {mid : List ℕ} {r : ℕ} {out' : List ℕ} {r' : ℕ} → Writes t out at mid r → Writes u mid r out' r' → Writes (t ++ u) out at out' r'
 writes_then {t} {u} {out} {at} {mid} {r} {out'} {r'} x y =
     let sum : length (t ++ u) ≡ length t + length u = length-append t u in
     record {
@@ -28,6 +28,10 @@ writes_then {t} {u} {out} {at} {mid} {r} {out'} {r'} x y =
           let both : placed (placed out at t) (at + length t) u ≡ placed out at (t ++ u) = placed_twice out at t u h in
           cc;
     }
+
+-- The same text in other words.
+pub writes_as : {t u out : List ℕ} {at : ℕ} {out' : List ℕ} {r : ℕ} → t ≡ u → Writes t out at out' r → Writes u out at out' r
+writes_as {t} {u} {out} {at} {out'} {r} e = subst (λ (x : List ℕ). Writes x out at out' r) e
 
 -- The same by a writer, which keeps its buffer.
 pub put_written : {t : List ℕ} {w w' : Writer} → PutBy t w w' → WrittenBy t w w'

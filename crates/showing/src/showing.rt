@@ -1,5 +1,5 @@
 // A journal is replayed, and its hub is reported, or the fault for which the replay stops.
-ghost use Rattle.std.specs.Prelude.{◌≡◌, ◌*◌, ◌<◌, ◌^◌, true};
+ghost use Rattle.std.specs.Prelude.{◌≡◌, ◌*◌, ◌<◌, ◌^◌, length, true};
 ghost use Rattle.std.specs.Mem.{type_size};
 ghost use Rattle.registers.specs.Numbers.{code_of};
 ghost use Rattle.hub_runs.specs.States.{viewed};
@@ -53,16 +53,24 @@ fn is_of_another(refusal: Refusal) -> bool
 }
 
 // With registers of one kind, on tables that have room for the largest hub, 64 commands and 8 cards of a role; none where the
-// journal names another register. The arrays stand here: a `Tables` only borrows, so no function can make it with them.
-fn show_with<R: Register>(journal: &[u8], out: &mut [u8]) -> Option<Result<Shown, Refusal>>
-    requires { 8 * type_size R.row < 2 ^ 63 }
+// journal names another register. Commands and cards come one by one: they are made once for all kinds, and the registers of a
+// kind join them here, where a `Tables` over all of them can be built.
+fn show_with<R: Register>(
+    journal: &[u8],
+    commands: &mut [Command],
+    masters: &mut [Card<BackupNumber>],
+    backups: &mut [Card<MasterNumber>],
+    out: &mut [u8],
+) -> Option<Result<Shown, Refusal>>
+    requires room { (length commands.old ≡ 64) × ((length masters.old ≡ 8) × (length backups.old ≡ 8)) }
+    requires size { 8 * type_size R.row < 2 ^ 63 }
     ensures { TriedWith R.kind R.start R.rule journal.now out.old result out.new }
 {
     let mut tables = Tables {
-        commands: &mut [Command::blank(); 64],
-        masters: &mut [Card::unused(BackupNumber(0)); 8],
+        commands,
+        masters,
         master_registers: &mut [R::empty(); 8],
-        backups: &mut [Card::unused(MasterNumber(0)); 8],
+        backups,
         backup_registers: &mut [R::empty(); 8],
     };
     match replay(journal, &mut tables) {
@@ -77,14 +85,29 @@ fn show_with<R: Register>(journal: &[u8], out: &mut [u8]) -> Option<Result<Shown
 pub fn show(journal: &[u8], out: &mut [u8]) -> Result<Shown, Refusal>
     ensures { Shows (text_shown journal.now) (number_shown journal.now) out.old result out.new }
 {
+    let mut commands = [Command::blank(); 64];
+    let mut masters = [Card::unused(BackupNumber(0)); 8];
+    let mut backups = [Card::unused(MasterNumber(0)); 8];
     // By `if let`, tried by `or_else`: of a buffer that a closure may write to, a proof knows only the length afterwards.
-    if let Some(shown) = show_with::<Sum>(journal, out) {
+    if let Some(shown) = show_with::<Sum>(journal, &mut commands, &mut masters, &mut backups, out) {
         return shown;
     }
-    if let Some(shown) = show_with::<Classes>(journal, out) {
+    if let Some(shown) = show_with::<Classes>(
+        journal,
+        &mut commands,
+        &mut masters,
+        &mut backups,
+        out,
+    ) {
         return shown;
     }
-    if let Some(shown) = show_with::<Peak>(journal, out) {
+    if let Some(shown) = show_with::<Peak>(
+        journal,
+        &mut commands,
+        &mut masters,
+        &mut backups,
+        out,
+    ) {
         return shown;
     }
     show_fault(ANOTHER_REGISTER, out)

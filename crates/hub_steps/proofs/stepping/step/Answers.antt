@@ -4,7 +4,11 @@ use Rattle.hub_runs.proofs.GoingOn.{step_by_the_module, step_goes_on}
 use Rattle.hub_runs.proofs.Lawful.{lawful}
 use Rattle.hub_steps.specs.Held.{state_held}
 use Rattle.hub_steps.specs.Replied.{step_reply}
+use Rattle.hub_steps.proofs.AsAnswered.{as_answered}
 use Rattle.hub_steps.proofs.stepping.step.Goals as goal
+
+pub returns-clause-answered : goal.returns-clause-answered
+returns-clause-answered g c = as_answered _ _ _ c.answer_step.result c.answer_step.ensures.answered
 
 pub returns-clause-steps : goal.returns-clause-steps
 returns-clause-steps g c =
