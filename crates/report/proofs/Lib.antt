@@ -1,4 +1,5 @@
 pub mod Bounds
 mod Commas
+pub mod Parts
 pub mod Placing
 pub mod Writing
